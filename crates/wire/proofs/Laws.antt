@@ -1,0 +1,122 @@
+-- Laws of the definitions of `specs/Wire.antt`, each over the width. Assumes nothing.
+use mathlib.Core.Path.{_≡_, refl, sym, ap, ap₂, _∙_, subst}
+use mathlib.Core.List.{List, [], _∷_, _++_}
+use Prim.Native.Nat.{ℕ, zero, suc, _+_, _-_, _*_, _/_, _%_, _^_, _≤_, _<_}
+use native.Mathlib.Nat.{add-zero, add-suc, suc-add}
+use native.Mathlib.Numerals.{add-one}
+use native.Mathlib.Omega.{arith}
+use lib.ListN.{length, take, drop, getD, set, length-take, length-drop}
+use lib.Seq.{sets, sets-eq, length-sets, drop-cons}
+use lib.Pow.{pow-add}
+use native.Mathlib.Nat.{pow-le-pow-right, zero-lt-suc}
+use Rattle.wire.specs.Wire.{le, number, part, field, splice, same, both}
+use mathlib.Core.Bool.{true}
+use lib.Dec.{eqb}
+use lib.ListN.{length-append, drop-of-length-le}
+
+pub length-le : (k n : ℕ) → length (le k n) ≡ k
+unfolding le
+length-le zero n = refl
+length-le (suc k) n = ap suc (length-le k (n / 256))
+
+pub length-part : (at k : ℕ) (xs : List ℕ) → at + k ≤ length xs → length (part at k xs) ≡ k
+unfolding part
+length-part at k xs h = simp (length-take, length-drop) (omega arith)
+
+pub length-splice : (at : ℕ) (bs xs : List ℕ) → at + length bs ≤ length xs → length (splice at bs xs) ≡ length xs
+unfolding splice
+length-splice at bs xs h = ap length (sym (sets-eq bs xs at h)) ∙ length-sets xs at bs
+
+-- a run of stores is a splice
+pub stores : (at : ℕ) (bs xs : List ℕ) → at + length bs ≤ length xs → sets xs at bs ≡ splice at bs xs
+unfolding splice
+stores at bs xs h = sets-eq bs xs at h
+
+-- one byte more of a number, at the front
+pub le-step : (k n : ℕ) {j : ℕ} → j ≡ k + 1 → le j n ≡ n % 256 ∷ le k (n / 256)
+unfolding le
+le-step k n e = ap (λ (x : ℕ). le x n) (e ∙ add-one k)
+
+-- one element more of a part, at the front
+pub part-step : (at k : ℕ) (xs : List ℕ) {j : ℕ} → j ≡ k + 1 → at < length xs → part at j xs ≡ getD xs at 0 ∷ part (at + 1) k xs
+unfolding part
+part-step at k xs e h =
+    ap (λ (x : ℕ). take x (drop at xs)) (e ∙ add-one k) ∙ ap (take (suc k)) (drop-cons xs at 0 h)
+    ∙ ap (λ (x : ℕ). getD xs at 0 ∷ take k (drop x xs)) (sym (add-one at))
+
+-- the first store of a run is the code's store
+pub sets-step : (at : ℕ) (b : ℕ) (bs xs : List ℕ) → sets xs at (b ∷ bs) ≡ sets (set xs at b) (at + 1) bs
+sets-step at b bs xs = ap (λ (x : ℕ). sets (set xs at b) x bs) (sym (add-one at))
+
+pub field-step : (xs : List ℕ) (at k : ℕ) {j : ℕ} → j ≡ k + 1 → at < length xs → field xs at j ≡ field xs (at + 1) k * 256 + getD xs at 0
+unfolding field number
+field-step xs at k e h = ap number (part-step at k xs e h)
+
+pub field-none : (xs : List ℕ) (at : ℕ) → field xs at 0 ≡ 0
+unfolding field number part
+field-none xs at = refl
+
+-- a byte more than a number of k bytes
+pub byte-more : (k r b : ℕ) {j : ℕ} → j ≡ k + 1 → r < 256 ^ k → b < 256 → r * 256 + b < 256 ^ j
+byte-more k r b {j} e hr hb =
+    let p : 256 ^ j ≡ 256 ^ k * 256 = ap (λ (x : ℕ). 256 ^ x) e ∙ pow-add 256 k 1 in
+    subst (λ (x : ℕ). r * 256 + b < x) (sym p) (omega arith)
+
+-- a number of at most 8 bytes fits 64 bits
+pub below-word : (k r : ℕ) → k ≤ 8 → r < 256 ^ k → r < 2 ^ 64
+below-word k r hk hr = omega (arith, pow-le-pow-right {n = 256} (zero-lt-suc 255) hk)
+
+-- a turn of a loop that stores a run of bytes, l, from index at + i: the store of the first, and the rest
+pub turn : (d e : List ℕ) (at i b : ℕ) (bs l : List ℕ) → l ≡ b ∷ bs → sets d (at + i) l ≡ e → sets (set d (at + i) b) (at + (i + 1)) bs ≡ e
+turn d e at i b bs l p h =
+    ap (λ (x : ℕ). sets (set d (at + i) b) x bs) (omega arith) ∙ sym (sets-step (at + i) b bs d) ∙ ap (sets d (at + i)) (sym p) ∙ h
+
+-- the end of such a loop, where nothing is left: what was asked for is the splice
+pub turned : (d d₀ : List ℕ) (at j : ℕ) (l bs : List ℕ) → l ≡ [] → sets d j l ≡ sets d₀ at bs → at + length bs ≤ length d₀ → d ≡ splice at bs d₀
+turned d d₀ at j l bs p h room = ap (sets d j) (sym p) ∙ h ∙ stores at bs d₀ room
+
+pub le-none : (k n : ℕ) → k ≡ 0 → le k n ≡ []
+unfolding le
+le-none k n e = ap (λ (x : ℕ). le x n) e
+
+pub part-none : (at k : ℕ) (xs : List ℕ) → k ≡ 0 → part at k xs ≡ []
+unfolding part
+part-none at k xs e = ap (λ (x : ℕ). take x (drop at xs)) e
+
+pub field-zero : (xs : List ℕ) (at k : ℕ) → k ≡ 0 → 0 ≡ field xs at k
+field-zero xs at k e = sym (ap (field xs at) e ∙ field-none xs at)
+
+-- a turn of the loop that reads a number from its highest byte down: r has the bytes from index at + i on
+pub field-turn : (s : List ℕ) (at i n r b : ℕ) → 0 < i → i ≤ n → at + n ≤ length s → r ≡ field s (at + i) (n - i) → b ≡ getD s (at + (i - 1)) 0
+    → r * 256 + b ≡ field s (at + (i - 1)) (n - (i - 1))
+field-turn s at i n r b pos le fits er eb =
+    ap₂ (λ (x y : ℕ). x * 256 + y) (er ∙ ap (λ (x : ℕ). field s x (n - i)) (omega arith)) eb
+    ∙ sym (field-step s (at + (i - 1)) (n - i) (omega arith) (omega arith))
+
+pub part-turn : (s : List ℕ) (from i n : ℕ) → i < n → from + n ≤ length s → part (from + i) (n - i) s ≡ getD s (from + i) 0 ∷ part (from + (i + 1)) (n - (i + 1)) s
+part-turn s from i n less fits =
+    part-step (from + i) (n - (i + 1)) s (omega arith) (omega arith)
+    ∙ ap (λ (x : ℕ). getD s (from + i) 0 ∷ part x (n - (i + 1)) s) (omega arith)
+
+sets-append : (a b xs : List ℕ) (at j : ℕ) → j ≡ at + length a → sets (sets xs at a) j b ≡ sets xs at (a ++ b)
+sets-append [] b xs at j e = ap (λ (x : ℕ). sets xs x b) (e ∙ add-zero at)
+sets-append (x ∷ a) b xs at j e = sets-append a b (set xs at x) (suc at) j (e ∙ add-suc at (length a) ∙ sym (suc-add at (length a)))
+
+-- two splices, the second where the first ends, are one
+pub joined : (at j : ℕ) (a b xs : List ℕ) → j ≡ at + length a → j + length b ≤ length xs → splice j b (splice at a xs) ≡ splice at (a ++ b) xs
+joined at j a b xs e h =
+    ap (splice j b) (sym (stores at a xs (omega arith)))
+    ∙ sym (stores j b (sets xs at a) (rw length-sets h))
+    ∙ sets-append a b xs at j e
+    ∙ stores at (a ++ b) xs (rw length-append (omega arith))
+
+-- a turn of the loop that compares
+pub same-turn : (s t : List ℕ) (at i : ℕ) → i < length t → at + length t ≤ length s
+    → same (part (at + i) (length t - i) s) (drop i t) ≡ both (eqb (getD s (at + i) 0) (getD t i 0)) (same (part (at + (i + 1)) (length t - (i + 1)) s) (drop (i + 1) t))
+unfolding same
+same-turn s t at i less fits =
+    ap₂ same (part-turn s at i (length t) less fits) (drop-cons t i 0 less ∙ ap (λ (x : ℕ). getD t i 0 ∷ drop x t) (sym (add-one i)))
+
+pub same-none : (s t : List ℕ) (at k i : ℕ) → k ≡ 0 → length t ≤ i → same (part at k s) (drop i t) ≡ true
+unfolding same
+same-none s t at k i e h = ap₂ same (part-none at k s e) (drop-of-length-le t h)

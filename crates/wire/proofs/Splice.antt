@@ -1,0 +1,72 @@
+-- Reading after a splice, over any width and offset: what was written is read back, and what lies elsewhere is as before.
+-- Assumes nothing.
+use mathlib.Core.Path.{_≡_, refl, sym, ap, _∙_}
+use mathlib.Core.List.{List, _++_, append-assoc}
+use Prim.Native.Nat.{ℕ, zero, suc, _+_, _-_, _*_, _/_, _%_, _^_, _≤_, _<_}
+use native.Mathlib.Nat.{div-add-mod', div-lt-iff-lt-mul, pow-suc, zero-lt-suc}
+use native.Mathlib.Omega.{arith}
+use lib.ListN.{length, take, drop, length-take, length-drop, length-append, take-append-drop}
+use lib.Seq.{take-append-le, drop-append-le, drop-append-add, drop-drop, take-at, drop-at}
+use Rattle.wire.specs.Wire.{le, number, part, field, splice}
+use Rattle.wire.proofs.Laws.{length-le}
+
+-- the number that the k bytes of n stand for is n, where n has k bytes
+pub number-le : (k n : ℕ) → n < 256 ^ k → number (le k n) ≡ n
+unfolding number le
+number-le zero n h = sym (omega arith)
+number-le (suc k) n h =
+    let few : n < 256 ^ k * 256 = rw pow-suc at h in
+    ap (λ (x : ℕ). x * 256 + n % 256) (number-le k (n / 256) (div-lt-iff-lt-mul {k = 256} (zero-lt-suc 255) .1 few)) ∙ div-add-mod' n 256
+
+-- a part read where a splice wrote it
+pub part-written : (at : ℕ) (bs xs : List ℕ) → at + length bs ≤ length xs → part at (length bs) (splice at bs xs) ≡ bs
+unfolding part splice
+part-written at bs xs h =
+    let long : length (take at xs) ≡ at = simp length-take (omega arith) in
+    rw append-assoc
+    (ap (take (length bs)) (drop-at (take at xs) (bs ++ drop (at + length bs) xs) at long) ∙ take-at bs (drop (at + length bs) xs) (length bs) refl)
+
+-- a part of the first `at` elements does not see what follows them
+part-of-front : (i k at : ℕ) (xs t : List ℕ) → i + k ≤ at → at ≤ length xs → part i k (take at xs ++ t) ≡ part i k (take at xs)
+unfolding part
+part-of-front i k at xs t h fits =
+    let long : length (take at xs) ≡ at = simp length-take (omega arith) in
+    ap (take k) (drop-append-le i (take at xs) t (omega arith)) ∙ take-append-le k (drop i (take at xs)) t (simp length-drop (omega arith))
+
+-- a part that ends where a splice begins, or before
+pub part-before : (i k at : ℕ) (bs xs : List ℕ) → i + k ≤ at → at + length bs ≤ length xs → part i k (splice at bs xs) ≡ part i k xs
+unfolding splice
+part-before i k at bs xs h fits =
+    ap (part i k) (append-assoc (take at xs) bs (drop (at + length bs) xs))
+    ∙ part-of-front i k at xs (bs ++ drop (at + length bs) xs) h (omega arith)
+    ∙ sym (part-of-front i k at xs (drop at xs) h (omega arith))
+    ∙ ap (part i k) (take-append-drop at xs)
+
+-- a part that begins where a splice ends, or after
+pub part-after : (i k at : ℕ) (bs xs : List ℕ) → at + length bs ≤ i → at + length bs ≤ length xs → part i k (splice at bs xs) ≡ part i k xs
+unfolding part splice
+part-after i k at bs xs h fits =
+    let front : length (take at xs ++ bs) ≡ at + length bs = simp (length-append, length-take) (omega arith) in
+    let past : i ≡ length (take at xs ++ bs) + (i - (at + length bs)) = omega arith in
+    let whole : at + length bs + (i - (at + length bs)) ≡ i = omega arith in
+    ap (take k)
+    (ap (λ (j : ℕ). drop j (take at xs ++ bs ++ drop (at + length bs) xs)) past
+    ∙ drop-append-add (take at xs ++ bs) (drop (at + length bs) xs) (i - (at + length bs))
+    ∙ drop-drop (i - (at + length bs)) (at + length bs) xs
+    ∙ ap (λ (j : ℕ). drop j xs) whole)
+
+-- a number written is the number read back
+pub field-written : (at k n : ℕ) (xs : List ℕ) → n < 256 ^ k → at + k ≤ length xs → field (splice at (le k n) xs) at k ≡ n
+unfolding field
+field-written at k n xs small fits =
+    let long : length (le k n) ≡ k = length-le k n in
+    ap number (ap (λ (j : ℕ). part at j (splice at (le k n) xs)) (sym long) ∙ part-written at (le k n) xs (rw long fits)) ∙ number-le k n small
+
+-- a field that ends where a splice begins, or before, and one that begins where it ends, or after
+pub field-before : (i k at : ℕ) (bs xs : List ℕ) → i + k ≤ at → at + length bs ≤ length xs → field (splice at bs xs) i k ≡ field xs i k
+unfolding field
+field-before i k at bs xs h fits = ap number (part-before i k at bs xs h fits)
+
+pub field-after : (i k at : ℕ) (bs xs : List ℕ) → at + length bs ≤ i → at + length bs ≤ length xs → field (splice at bs xs) i k ≡ field xs i k
+unfolding field
+field-after i k at bs xs h fits = ap number (part-after i k at bs xs h fits)
