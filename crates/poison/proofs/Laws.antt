@@ -1,0 +1,223 @@
+-- The laws of the list's rules that a caller cites, each with its sentence in words. Assumes nothing.
+use mathlib.Core.Path.{_≡_, refl, sym, ap, _∙_}
+use mathlib.Core.Bool.{Bool, true, false, not, _&&_, _||_, cond, true≢false, false≢true, and-false}
+use mathlib.Core.List.{List, [], _∷_, _++_, map, List·Memᴰ, List·Memᴰ·head, List·Memᴰ·tail, List·Memᴰ·cases-cons}
+use mathlib.Core.Logic.{_⊎_, inl, inr}
+use Prim.Native.Nat.{ℕ, _+_, _-_, _≤_, _<_}
+use native.Mathlib.Omega.{arith}
+use lib.Dec.{ltb}
+use lib.ListN.{length, take, drop, take-append-drop}
+use Rattle.poison.specs.Runs.{Run, run, in-run, in-runs, count, Chain, uncovered, room, before, after}
+use Rattle.poison.specs.State.{Entry, PoisonState, shape, shapes, entry, covers, kind-at, insert-entry, insert-entries, Typed}
+use Rattle.poison.specs.Report.{found, stored-runs, report-entries, lines-stored, lines-dropped, with-drop, after-report}
+use Rattle.poison.specs.Inject.{with-entry, after-inject}
+use Rattle.poison.specs.Clear.{cut-entries}
+use Rattle.poison.proofs.Moves.{nought}
+use Rattle.poison.proofs.Counts.{Place, low, mid, high, place, count-chain, count-cong}
+use Rattle.poison.proofs.RunLaws.{chain-runs-of, chain-take, chain-higher, chain-insert-all, chain-insert, chain-cut, in-append, in-runs-of}
+use Rattle.poison.proofs.Shapes.{shapes-entry, shapes-insert, shapes-insert-all, shapes-cut}
+use Rattle.poison.proofs.Extents.{total-take-drop, Gaps, gaps-runs-of}
+
+-- ---- the runs of a report
+-- The runs are exactly the uncovered lines of the extent.
+pub found-lines : (es : List Entry) (a n k : ℕ) → in-runs (found es a n) k ≡ (in-run (run a n) k && not (covers es k))
+unfolding uncovered
+found-lines es a n k = in-runs-of (λ j. not (covers es j)) a n k
+
+-- They are ascending, none empty, no line in two, all inside the extent.
+pub found-ascending : (es : List Entry) (a n : ℕ) → Chain a (a + n) (found es a n)
+unfolding uncovered
+found-ascending es a n = chain-runs-of (λ j. not (covers es j)) a n
+
+-- They are maximal: between any two of them there is a line, which by `found-lines` is a covered one.
+pub found-maximal : (es : List Entry) (a n : ℕ) → Gaps a (found es a n)
+unfolding uncovered
+found-maximal es a n = gaps-runs-of (λ j. not (covers es j)) a n
+
+-- The lines stored and the lines dropped are together the extent's lines that were uncovered before.
+pub stored-and-dropped-lines : (es : List Entry) (a n m : ℕ) → a + n ≤ m → lines-stored es a n + lines-dropped es a n ≡ count (λ k. in-run (run a n) k && not (covers es k)) m
+unfolding lines-stored lines-dropped
+stored-and-dropped-lines es a n m h =
+    total-take-drop (room (length es)) (found es a n)
+    ∙ sym (count-chain a m (found es a n) (chain-higher a (a + n) m (found es a n) h (found-ascending es a n)))
+    ∙ count-cong (in-runs (found es a n)) (λ k. in-run (run a n) k && not (covers es k)) m (λ k l. found-lines es a n k)
+
+-- a line of a run that is stored was uncovered
+stored-free : (es : List Entry) (a n k : ℕ) → in-runs (stored-runs es a n) k ≡ true → covers es k ≡ false
+stored-free es a n k e =
+    go (covers es k) (in-run (run a n) k) (in-runs (drop m (found es a n)) k)
+    (sym (ap (λ (t : Bool). t || in-runs (drop m (found es a n)) k) e) ∙ sym (in-append (take m (found es a n)) (drop m (found es a n)) k) ∙ ap (λ (ys : List Run). in-runs ys k) (take-append-drop m (found es a n)) ∙ found-lines es a n k)
+  where
+    m : ℕ
+    m = room (length es)
+
+    go : (c x u : Bool) → (true || u) ≡ (x && not c) → c ≡ false
+    go true x u q = absurd (true≢false (q ∙ and-false x))
+    go false x u q = refl
+
+-- ---- entries stay in ascending order, no line in two, none empty, all inside the device
+-- After a report.
+pub chain-report : (n a l kind : ℕ) (es : List Entry) → Chain 0 n (shapes es) → a + l ≤ n → Chain 0 n (shapes (report-entries es a l kind))
+unfolding report-entries
+chain-report n a l kind es c h =
+    rw (shapes-insert-all (map (entry kind) (stored-runs es a l)) es, shapes-entry kind (stored-runs es a l))
+    (chain-insert-all 0 n a (a + l) (stored-runs es a l) (shapes es) c (chain-take a (a + l) (room (length es)) (found es a l) (found-ascending es a l)) (omega arith) h (stored-free es a l))
+
+-- With an entry more, whose lines were uncovered.
+pub chain-insert-entry : (n a m kind : ℕ) (es : List Entry) → Chain 0 n (shapes es) → 0 < m → a + m ≤ n → ((k : ℕ) → a ≤ k → k < a + m → covers es k ≡ false) → Chain 0 n (shapes (insert-entry (entry kind (run a m)) es))
+chain-insert-entry n a m kind es c p h f = rw (shapes-insert (entry kind (run a m)) es) (chain-insert 0 n (run a m) (shapes es) c (omega arith) p h free)
+  where
+    free : (k : ℕ) → in-run (run a m) k ≡ true → covers es k ≡ false
+    free k e = go (place (run a m) k)
+      where
+        go : Place (run a m) k → covers es k ≡ false
+        go (low u v) = absurd (false≢true (sym v ∙ e))
+        go (mid u w v) = f k u w
+        go (high u w v) = absurd (false≢true (sym v ∙ e))
+
+-- After an injection at an uncovered line.
+pub chain-inject : (n k kind : ℕ) (es : List Entry) → Chain 0 n (shapes es) → k < n → covers es k ≡ false → Chain 0 n (shapes (insert-entry (entry kind (run k 1)) es))
+chain-inject n k kind es c h e = chain-insert-entry n k 1 kind es c (omega arith) (omega arith) (λ j u w. let z : j ≡ k = omega arith in rw z e)
+
+-- After a clear.
+pub chain-clear : (n k : ℕ) (keep : Bool) (es : List Entry) → Chain 0 n (shapes es) → Chain 0 n (shapes (cut-entries keep k es))
+chain-clear n k keep es c = rw (shapes-cut keep k es) (chain-cut 0 n keep k (shapes es) c)
+
+-- ---- every type has three bits
+pub typed-insert : (e : Entry) (es : List Entry) → e .kind < 8 → Typed es → Typed (insert-entry e es)
+typed-insert e [] h t = (h, tt)
+typed-insert e (x ∷ es) h t = go (ltb (e .start) (x .start)) (typed-insert e es h (t .1))
+  where
+    go : (b : Bool) → Typed (insert-entry e es) → Typed (cond b (e ∷ x ∷ es) (x ∷ insert-entry e es))
+    go true i = (h, t)
+    go false i = (t .0, i)
+
+typed-runs : (kind : ℕ) (rs : List Run) (es : List Entry) → kind < 8 → Typed es → Typed (insert-entries (map (entry kind) rs) es)
+typed-runs kind [] es h t = t
+typed-runs kind (r ∷ rs) es h t = typed-runs kind rs (insert-entry (entry kind r) es) h (typed-insert (entry kind r) es h t)
+
+-- After a report.
+pub typed-report : (a n kind : ℕ) (es : List Entry) → kind < 8 → Typed es → Typed (report-entries es a n kind)
+unfolding report-entries
+typed-report a n kind es h t = typed-runs kind (stored-runs es a n) es h t
+
+typed-append : (es fs : List Entry) → Typed es → Typed fs → Typed (es ++ fs)
+typed-append [] fs t u = u
+typed-append (e ∷ es) fs t u = (t .0, typed-append es fs (t .1) u)
+
+typed-map : (kind : ℕ) (rs : List Run) → kind < 8 → Typed (map (entry kind) rs)
+typed-map kind [] h = tt
+typed-map kind (r ∷ rs) h = (h, typed-map kind rs h)
+
+-- After a clear.
+pub typed-clear : (keep : Bool) (k : ℕ) (es : List Entry) → Typed es → Typed (cut-entries keep k es)
+typed-clear keep k [] t = tt
+typed-clear keep k (e ∷ es) t = go (in-run (shape e) k) (typed-clear keep k es (t .1))
+  where
+    F : List Entry
+    F = map (entry (e .kind)) (before k (shape e))
+
+    B : List Entry
+    B = map (entry (e .kind)) (after k (shape e))
+
+    part : (b : Bool) → Typed (cond b B [])
+    part true = typed-map (e .kind) (after k (shape e)) (t .0)
+    part false = tt
+
+    go : (b : Bool) → Typed (cut-entries keep k es) → Typed (cond b (F ++ (cond keep B [] ++ es)) (e ∷ cut-entries keep k es))
+    go true i = typed-append F (cond keep B [] ++ es) (typed-map (e .kind) (before k (shape e)) (t .0)) (typed-append (cond keep B []) es (part keep) (t .1))
+    go false i = (t .0, i)
+
+-- ---- entries are never merged
+-- an entry held before another is put in is still there after it
+insert-holds : (e x : Entry) (es : List Entry) → List·Memᴰ x es → List·Memᴰ x (insert-entry e es)
+insert-holds e x [] m = List·Memᴰ·tail m
+insert-holds e x (y ∷ es) m = go (ltb (e .start) (y .start)) (List·Memᴰ·cases-cons m) (λ q. insert-holds e x es q)
+  where
+    go : (b : Bool) → (x ≡ y) ⊎ List·Memᴰ x es → (List·Memᴰ x es → List·Memᴰ x (insert-entry e es)) → List·Memᴰ x (cond b (e ∷ y ∷ es) (y ∷ insert-entry e es))
+    go true o i = List·Memᴰ·tail m
+    go false (inl q) i = List·Memᴰ·head q
+    go false (inr q) i = List·Memᴰ·tail (i q)
+
+insert-all-holds : (fs : List Entry) (x : Entry) (es : List Entry) → List·Memᴰ x es → List·Memᴰ x (insert-entries fs es)
+insert-all-holds [] x es m = m
+insert-all-holds (f ∷ fs) x es m = insert-all-holds fs x (insert-entry f es) (insert-holds f x es m)
+
+-- Every entry held before a report is still there after it, the very same.
+pub report-holds : (s : PoisonState) (a n kind time : ℕ) (x : Entry) → List·Memᴰ x (s .entries) → List·Memᴰ x (after-report s a n kind time .entries)
+unfolding report-entries with-drop
+report-holds s a n kind time x m = insert-all-holds (map (entry kind) (stored-runs (s .entries) a n)) x (s .entries) m
+
+-- The same for an injection.
+pub inject-holds : (s : PoisonState) (k : ℕ) (x : Entry) → List·Memᴰ x (s .entries) → List·Memᴰ x (after-inject s k .entries)
+inject-holds s k x m = go (covers (s .entries) k)
+  where
+    go : (b : Bool) → List·Memᴰ x (cond b s (with-entry s k) .entries)
+    go true = m
+    go false = insert-holds (entry 3 (run k 1)) x (s .entries) m
+
+-- ---- covered lines keep their entry
+-- the entry over line k
+abbrev pub entry-over : List Entry → ℕ → Entry
+entry-over [] k = nought
+entry-over (e ∷ es) k = cond (in-run (shape e) k) e (entry-over es k)
+
+pub kind-over : (es : List Entry) (k : ℕ) → kind-at es k ≡ entry-over es k .kind
+kind-over [] k = refl
+kind-over (e ∷ es) k = go (in-run (shape e) k) (kind-over es k)
+  where
+    go : (b : Bool) → kind-at es k ≡ entry-over es k .kind → cond b (e .kind) (kind-at es k) ≡ cond b e (entry-over es k) .kind
+    go true i = refl
+    go false i = i
+
+-- an entry that does not cover a line leaves the entry over it as it was
+insert-over : (e : Entry) (es : List Entry) (k : ℕ) → in-run (shape e) k ≡ false → entry-over (insert-entry e es) k ≡ entry-over es k
+insert-over e [] k h = rw h
+insert-over e (x ∷ es) k h = go (ltb (e .start) (x .start)) (insert-over e es k h)
+  where
+    go : (b : Bool) → entry-over (insert-entry e es) k ≡ entry-over es k → entry-over (cond b (e ∷ x ∷ es) (x ∷ insert-entry e es)) k ≡ cond (in-run (shape x) k) x (entry-over es k)
+    go true i = rw h
+    go false i = rw i
+
+or-left : (b c : Bool) → (b || c) ≡ false → b ≡ false
+or-left true c h = absurd (true≢false h)
+or-left false c h = refl
+
+or-right : (b c : Bool) → (b || c) ≡ false → c ≡ false
+or-right true c h = absurd (true≢false h)
+or-right false c h = h
+
+insert-all-over : (kind : ℕ) (rs : List Run) (es : List Entry) (k : ℕ) → in-runs rs k ≡ false → entry-over (insert-entries (map (entry kind) rs) es) k ≡ entry-over es k
+insert-all-over kind [] es k h = refl
+insert-all-over kind (r ∷ rs) es k h =
+    insert-all-over kind rs (insert-entry (entry kind r) es) k (or-right (in-run r k) (in-runs rs k) h)
+    ∙ insert-over (entry kind r) es k (or-left (in-run r k) (in-runs rs k) h)
+
+-- A line that was covered before a report has the very same entry over it after the report, and so the same type (`kind-over`).
+pub report-over : (s : PoisonState) (a n kind time k : ℕ) → covers (s .entries) k ≡ true → entry-over (after-report s a n kind time .entries) k ≡ entry-over (s .entries) k
+unfolding report-entries with-drop
+report-over s a n kind time k h = insert-all-over kind (stored-runs (s .entries) a n) (s .entries) k (go (in-runs (stored-runs (s .entries) a n) k) (stored-free (s .entries) a n k))
+  where
+    go : (b : Bool) → (b ≡ true → covers (s .entries) k ≡ false) → b ≡ false
+    go true f = absurd (true≢false (sym h ∙ f refl))
+    go false f = refl
+
+-- The same for an injection.
+pub inject-over : (s : PoisonState) (j k : ℕ) → covers (s .entries) k ≡ true → entry-over (after-inject s j .entries) k ≡ entry-over (s .entries) k
+inject-over s j k h = go (covers (s .entries) j) refl
+  where
+    other : covers (s .entries) j ≡ false → Place (run j 1) k → in-run (run j 1) k ≡ false
+    other u (low p e) = e
+    other u (mid p q e) = let z : k ≡ j = omega arith in absurd (true≢false (sym h ∙ rw z u))
+    other u (high p q e) = e
+
+    go : (b : Bool) → covers (s .entries) j ≡ b → entry-over (cond b s (with-entry s j) .entries) k ≡ entry-over (s .entries) k
+    go true u = refl
+    go false u = insert-over (entry 3 (run j 1)) (s .entries) k (other u (place (run j 1) k))
+
+-- The type of a covered line is as before, after a report and after an injection.
+pub report-kind : (s : PoisonState) (a n kind time k : ℕ) → covers (s .entries) k ≡ true → kind-at (after-report s a n kind time .entries) k ≡ kind-at (s .entries) k
+report-kind s a n kind time k h = kind-over (after-report s a n kind time .entries) k ∙ ap (λ (e : Entry). e .kind) (report-over s a n kind time k h) ∙ sym (kind-over (s .entries) k)
+
+pub inject-kind : (s : PoisonState) (j k : ℕ) → covers (s .entries) k ≡ true → kind-at (after-inject s j .entries) k ≡ kind-at (s .entries) k
+inject-kind s j k h = kind-over (after-inject s j .entries) k ∙ ap (λ (e : Entry). e .kind) (inject-over s j k h) ∙ sym (kind-over (s .entries) k)

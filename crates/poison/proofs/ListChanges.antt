@@ -1,0 +1,161 @@
+-- The list's own small changes in memory, by the view: what is done to the three arrays is done to the entries; the sum of the lengths.
+-- Assumes nothing.
+use mathlib.Core.Path.{_≡_, refl, sym, ap, _∙_}
+use mathlib.Core.Bool.{Bool, true, false, cond}
+use mathlib.Core.List.{List, [], _∷_, _++_}
+use Prim.Native.Nat.{ℕ, zero, suc, _+_, _-_, _≤_, _<_}
+use native.Mathlib.Omega.{arith}
+use lib.Dec.{ltb}
+use lib.ListN.{length, take, drop, getD, set, length-map}
+use lib.Seq.{set-getD, take-set-lt, drop-set-lt}
+use Rattle.poison.specs.declared.list.PoisonList.{PoisonList}
+use Rattle.poison.specs.Runs.{Run, run, total}
+use Rattle.poison.specs.Shift.{zip, putAt, pullAt}
+use Rattle.poison.specs.State.{Entry, PoisonState, entry, shape, shapes, runs-in, entries-in, entries-of, state-of, insert-entry, damage-total, sum-of}
+use Rattle.poison.specs.Search.{place-of}
+use Rattle.poison.specs.List.{InsertedAt, Inserted, RemovedAt, ReplacedAt}
+use Rattle.poison.proofs.Moves.{take-put, drop-put, take-pull, drop-pull, first-le}
+use Rattle.poison.proofs.Zips.{length-zip, zip-put, zip-pull, zip-set}
+use Rattle.poison.proofs.Views.{Sized, typed-as, same-lengths, same-kinds, shapes-of, length-entries}
+
+-- ---- the entries, where the same is done to each of the three arrays
+module _ (starts lengths kinds : List ℕ) (same : length starts ≡ length lengths) (same-k : length starts ≡ length kinds) where
+  runs : List Run
+  runs = zip run starts lengths
+
+  all : List Entry
+  unfolding runs
+  all = zip typed-as runs kinds
+
+  runs-long : length runs ≡ length kinds
+  unfolding runs
+  runs-long = length-zip run starts lengths same ∙ same-k
+
+  all-long : length all ≡ length starts
+  unfolding runs all
+  all-long = length-zip typed-as runs kinds runs-long ∙ length-zip run starts lengths same
+
+  pub entries-put : (at n start lines kind : ℕ) → at ≤ n → n < length starts → entries-in (n + 1) (putAt at n start starts) (putAt at n lines lengths) (putAt at n kind kinds) ≡ take at (entries-in n starts lengths kinds) ++ (entry kind (run start lines) ∷ drop at (entries-in n starts lengths kinds))
+  unfolding runs all
+  entries-put at n start lines kind h k =
+      rw (zip-put run at n start lines starts lengths same, zip-put typed-as at n (run start lines) kind runs kinds runs-long)
+      (take-put all at n (entry kind (run start lines)) h (rw all-long k))
+
+  pub entries-pull : (at n : ℕ) → at ≤ n → n < length starts → entries-in n (pullAt at n starts) (pullAt at n lengths) (pullAt at n kinds) ≡ take at (entries-in (n + 1) starts lengths kinds) ++ drop (at + 1) (entries-in (n + 1) starts lengths kinds)
+  unfolding runs all
+  entries-pull at n h k =
+      rw (zip-pull run at n starts lengths same, zip-pull typed-as at n runs kinds runs-long)
+      (take-pull all (entry 0 (run 0 0)) at n h (rw all-long k))
+
+  pub entries-set : (at n start lines : ℕ) → at < n → entries-in n (set starts at start) (set lengths at lines) kinds ≡ set (entries-in n starts lengths kinds) at (entry (getD kinds at 0) (run start lines))
+  unfolding runs all
+  entries-set at n start lines h =
+      rw (zip-set run starts lengths at start lines)
+      (ap (λ (ks : List ℕ). take n (zip typed-as (set runs at (run start lines)) ks)) (sym (set-getD kinds at 0))
+      ∙ rw (zip-set typed-as runs kinds at (run start lines) (getD kinds at 0)) (take-set-lt n all at (entry (getD kinds at 0) (run start lines)) h))
+
+-- ---- insertion in address order is insertion at the place found
+pub insert-is : (e : Entry) (es : List Entry) → insert-entry e es ≡ take (place-of (shapes es) (e .start)) es ++ (e ∷ drop (place-of (shapes es) (e .start)) es)
+insert-is e [] = refl
+insert-is e (x ∷ xs) = go (ltb (e .start) (x .start)) (insert-is e xs)
+  where
+    p : ℕ
+    p = place-of (shapes xs) (e .start)
+
+    go : (b : Bool) → insert-entry e xs ≡ take p xs ++ (e ∷ drop p xs) → cond b (e ∷ x ∷ xs) (x ∷ insert-entry e xs) ≡ take (cond b 0 (suc p)) (x ∷ xs) ++ (e ∷ drop (cond b 0 (suc p)) (x ∷ xs))
+    go true i = refl
+    go false i = ap (λ (l : List Entry). x ∷ l) i
+
+-- ---- states are equal by their parts
+pub state-path : {es fs : List Entry} {o p : Bool} {s t : ℕ} → es ≡ fs → o ≡ p → s ≡ t → _≡_ {A = PoisonState} (record { entries = es; overflow = o; overflow-time = s }) (record { entries = fs; overflow = p; overflow-time = t })
+state-path a b c = λ i. record { entries = a i; overflow = b i; overflow-time = c i }
+
+-- ---- lists in memory
+module _ (l : PoisonList) (sized : Sized l) where
+  pub inserted-at : (r : PoisonList) (at start lines kind : ℕ) → at ≤ l .count → l .count < 256 → r .starts ≡ putAt at (l .count) start (l .starts) → r .lengths ≡ putAt at (l .count) lines (l .lengths) → r .kinds ≡ putAt at (l .count) kind (l .kinds) → r .count ≡ l .count + 1 → r .overflow ≡ l .overflow → r .«overflow_time» ≡ l .«overflow_time» → InsertedAt l at start lines kind r
+  inserted-at r at start lines kind h k a b c d o t =
+      record {
+        state =
+            state-path
+            (rw (a, b, c, d) (entries-put (l .starts) (l .lengths) (l .kinds) (same-lengths l sized) (same-kinds l sized) at (l .count) start lines kind h (rw (sized .starts) k)))
+            o t;
+        count = d;
+        past =
+            record {
+              starts = rw a (drop-put (l .starts) at (l .count) start h (rw (sized .starts) k));
+              lengths = rw b (drop-put (l .lengths) at (l .count) lines h (rw (sized .lengths) k));
+              kinds = rw c (drop-put (l .kinds) at (l .count) kind h (rw (sized .kinds) k));
+            };
+      }
+
+  -- the place that the search finds is one of the list's
+  pub place-within : (at start : ℕ) → l .count ≤ 256 → at ≡ place-of (runs-in (l .count) (l .starts) (l .lengths)) start → at ≤ l .count
+  place-within at start h e =
+      let q : length (runs-in (l .count) (l .starts) (l .lengths)) ≡ l .count = ap length (sym (shapes-of l sized)) ∙ (length-map (entries-of l) shape ∙ length-entries l sized h) in
+      rw e (omega (arith, first-le (λ (x : Run). ltb start (x .start)) (runs-in (l .count) (l .starts) (l .lengths)), q))
+
+  pub inserted : (r : PoisonList) (at start lines kind : ℕ) → at ≡ place-of (runs-in (l .count) (l .starts) (l .lengths)) start → InsertedAt l at start lines kind r → Inserted l start lines kind r
+  inserted r at start lines kind e i =
+      record {
+        state =
+            i .state
+            ∙ state-path
+            (ap (λ (k : ℕ). take k (entries-of l) ++ (entry kind (run start lines) ∷ drop k (entries-of l))) (e ∙ ap (λ (rs : List Run). place-of rs start) (sym (shapes-of l sized)))
+            ∙ sym (insert-is (entry kind (run start lines)) (entries-of l)))
+            refl refl;
+        count = i .count;
+        past = i .past;
+      }
+
+  pub removed-at : (r : PoisonList) (at : ℕ) → at < l .count → l .count ≤ 256 → r .starts ≡ pullAt at (l .count - 1) (l .starts) → r .lengths ≡ pullAt at (l .count - 1) (l .lengths) → r .kinds ≡ pullAt at (l .count - 1) (l .kinds) → r .count ≡ l .count - 1 → r .overflow ≡ l .overflow → r .«overflow_time» ≡ l .«overflow_time» → RemovedAt l at r
+  removed-at r at h k a b c d o t =
+      let n : l .count - 1 + 1 ≡ l .count = omega arith in
+      let w : at ≤ l .count - 1 = omega arith in
+      let u : l .count - 1 < 256 = omega arith in
+      record {
+        state =
+            state-path
+            (rw (a, b, c, d) (entries-pull (l .starts) (l .lengths) (l .kinds) (same-lengths l sized) (same-kinds l sized) at (l .count - 1) w (rw (sized .starts) u))
+            ∙ ap (λ (m : ℕ). take at (entries-in m (l .starts) (l .lengths) (l .kinds)) ++ drop (at + 1) (entries-in m (l .starts) (l .lengths) (l .kinds))) n)
+            o t;
+        count = d;
+        past =
+            record {
+              starts = rw a (rw n at (drop-pull (l .starts) 0 at (l .count - 1) w (rw (sized .starts) u)));
+              lengths = rw b (rw n at (drop-pull (l .lengths) 0 at (l .count - 1) w (rw (sized .lengths) u)));
+              kinds = rw c (rw n at (drop-pull (l .kinds) 0 at (l .count - 1) w (rw (sized .kinds) u)));
+            };
+      }
+
+  pub replaced-at : (r : PoisonList) (at start lines : ℕ) → at < l .count → r .starts ≡ set (l .starts) at start → r .lengths ≡ set (l .lengths) at lines → r .kinds ≡ l .kinds → r .count ≡ l .count → r .overflow ≡ l .overflow → r .«overflow_time» ≡ l .«overflow_time» → ReplacedAt l at start lines (getD (l .kinds) at 0) r
+  replaced-at r at start lines h a b c d o t =
+      record {
+        state =
+            state-path
+            (rw (a, b, c, d) (entries-set (l .starts) (l .lengths) (l .kinds) (same-lengths l sized) (same-kinds l sized) at (l .count) start lines h))
+            o t;
+        count = d;
+        past =
+            record {
+              starts = rw a (drop-set-lt (l .count) (l .starts) at start h);
+              lengths = rw b (drop-set-lt (l .count) (l .lengths) at lines h);
+              kinds = rw c refl;
+            };
+      }
+
+-- ---- the sum of the lengths
+pub sum-next : (ns : List ℕ) (i : ℕ) → sum-of (take (suc i) ns) ≡ sum-of (take i ns) + getD ns i 0
+sum-next [] zero = refl
+sum-next [] (suc i) = refl
+sum-next (n ∷ ns) zero = omega arith
+sum-next (n ∷ ns) (suc i) = let q = sum-next ns i in omega arith
+
+total-runs : (n : ℕ) (starts lengths : List ℕ) → length starts ≡ length lengths → total (runs-in n starts lengths) ≡ sum-of (take n lengths)
+total-runs zero starts lengths e = refl
+total-runs (suc n) [] [] e = refl
+total-runs (suc n) [] (m ∷ lengths) e = absurd (omega arith)
+total-runs (suc n) (s ∷ starts) [] e = absurd (omega arith)
+total-runs (suc n) (s ∷ starts) (m ∷ lengths) e = ap (λ (k : ℕ). m + k) (total-runs n starts lengths (omega arith))
+
+pub total-is : (l : PoisonList) (sized : Sized l) → sum-of (take (l .count) (l .lengths)) ≡ damage-total (state-of l)
+total-is l sized = sym (ap total (shapes-of l sized) ∙ total-runs (l .count) (l .starts) (l .lengths) (same-lengths l sized))

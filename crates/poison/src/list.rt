@@ -1,0 +1,115 @@
+// The list in memory: starts, lengths and types side by side, so that each array can be lent to a function that works in place.
+// The entries are the first `count` of each; what stands past them is no part of the list. Also the list's own small changes.
+use crate::search;
+use crate::shift;
+ghost use mathlib.Core.Path.{_≡_};
+ghost use Prim.Native.Nat.{_+_, _-_, _≤_, _<_};
+ghost use lib.ListN.{take, getD};
+ghost use Rattle.poison.specs.State.{state-of, capacity, ValidList, Made, damage-total, sum-of};
+ghost use Rattle.poison.specs.List.{InsertedAt, Inserted, RemovedAt, ReplacedAt, Flagged};
+
+pub struct PoisonList {
+    pub starts: [u32; 256],
+    pub lengths: [u32; 256],
+    pub kinds: [u8; 256],
+    pub count: usize,
+    pub overflow: bool,
+    pub overflow_time: u64,
+}
+
+// The sum of the first n lengths.
+fn sum(lengths: &[u32; 256], n: usize) -> u64
+    requires { ⌜ n ≤ 256 ⌝ }
+    ensures { λ r. ⌜ r ≡ sum-of (take n (now (lengths .entry))) ⌝ }
+{
+    let mut total: u64 = 0;
+    let mut i: usize = 0;
+    while i < n {
+        total += search::wide(lengths[i]);
+        i += 1;
+    }
+    total
+}
+
+impl PoisonList {
+    // The empty list.
+    pub fn new() -> Self
+        ensures { λ r. ⌜ Made r ⌝ }
+    {
+        PoisonList {
+            starts: [0; 256],
+            lengths: [0; 256],
+            kinds: [0; 256],
+            count: 0,
+            overflow: false,
+            overflow_time: 0,
+        }
+    }
+
+    // Damage total: the sum of entry lengths, worked out at each call.
+    pub fn total(self) -> u64
+        requires { ⌜ ValidList capacity self ⌝ }
+        ensures { λ r. ⌜ r ≡ damage-total (state-of self) ⌝ }
+    {
+        sum(&self.lengths, self.count)
+    }
+
+    // The list with an entry more at place `at`: entries move within the arrays, and the slots past the new last entry keep what they
+    // held.
+    pub fn insert_at(mut self, at: usize, start: u32, lines: u32, kind: u8) -> Self
+        requires { ⌜ (at ≤ self .count) × (self .count < 256) ⌝ }
+        ensures { λ r. ⌜ InsertedAt self at start lines kind r ⌝ }
+    {
+        let n = self.count;
+        shift::put_number(&mut self.starts, at, n, start);
+        shift::put_number(&mut self.lengths, at, n, lines);
+        shift::put_kind(&mut self.kinds, at, n, kind);
+        self.count = n + 1;
+        self
+    }
+
+    // The list with an entry more, in its place in address order.
+    pub fn insert(self, start: u32, lines: u32, kind: u8) -> Self
+        requires { ⌜ ValidList capacity self × (self .count < 256) ⌝ }
+        ensures { λ r. ⌜ Inserted self start lines kind r ⌝ }
+    {
+        let n = self.count;
+        let at = search::place(&self.starts, &self.lengths, n, start);
+        self.insert_at(at, start, lines, kind)
+    }
+
+    // The list without its entry at place `at`.
+    pub fn remove_at(mut self, at: usize) -> Self
+        requires { ⌜ (at < self .count) × (self .count ≤ 256) ⌝ }
+        ensures { λ r. ⌜ RemovedAt self at r ⌝ }
+    {
+        let last = self.count - 1;
+        shift::pull_number(&mut self.starts, at, last);
+        shift::pull_number(&mut self.lengths, at, last);
+        shift::pull_kind(&mut self.kinds, at, last);
+        self.count = last;
+        self
+    }
+
+    // The list with another start and length at place `at`, of the same type.
+    pub fn replace_at(mut self, at: usize, start: u32, lines: u32) -> Self
+        requires { ⌜ (at < self .count) × (self .count ≤ 256) ⌝ }
+        ensures { λ r. ⌜ ReplacedAt self at start lines (getD (self .kinds) at 0) r ⌝ }
+    {
+        self.starts[at] = start;
+        self.lengths[at] = lines;
+        self
+    }
+
+    // The list after a drop: the first drop sets the overflow time.
+    pub fn with_overflow(mut self, time: u64) -> Self
+        ensures { λ r. ⌜ Flagged self time r ⌝ }
+    {
+        let before = self.overflow;
+        let kept = self.overflow_time;
+        let first = if before { kept } else { time };
+        self.overflow = true;
+        self.overflow_time = first;
+        self
+    }
+}
