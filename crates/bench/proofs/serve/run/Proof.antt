@@ -1,0 +1,91 @@
+-- `bench::serve::run` is safe and ends: what `serve` requires holds after the first record. Assumes nothing.
+use native.Mathlib.Omega.{arith}
+use borrow.Author.Needs.{needs}
+use Rattle.bench.proofs.serve.run.Statement.{statement}
+use Rattle.bench.proofs.serve.run.Tie as tie
+
+next-requires : tie.Need-next-requires
+next-requires c κs = search needs
+
+stop-requires : tie.Need-stop-requires
+stop-requires c κs = search needs
+
+same-length : tie.Need-same-length
+same-length c = search needs
+
+same-length-2 : tie.Need-same-length-2
+same-length-2 c = search needs
+
+returns : tie.Need-returns
+returns c = search needs
+
+add-to : tie.Need-add-to
+add-to c = search needs
+
+sub-begin : tie.Need-sub-begin
+sub-begin c = search needs
+
+part-begin-start : tie.Need-part-begin-start
+part-begin-start c = search needs
+
+part-begin-end : tie.Need-part-begin-end
+part-begin-end c = search needs
+
+begin-requires : tie.Need-begin-requires
+begin-requires c κs = search needs
+
+same-length-3 : tie.Need-same-length-3
+same-length-3 c = search needs
+
+same-length-4 : tie.Need-same-length-4
+same-length-4 c = search needs
+
+returns-2 : tie.Need-returns-2
+returns-2 c = search needs
+
+serve-requires : tie.Need-serve-requires
+serve-requires c κs =
+    let begun = c .before .before .before .before .before .before .before .before .begin in
+    let found = c .before .before .before .before .before .before .before .before .before .before .before .before .before .before .before .before .next in
+    let given = c .before .before .before .before .before .before .before .before .before .before .before .before .before .before .before .before .before .before .before .before .before .before .pre in (
+      begun .ensures .valid,
+      record { order = found .ensures .inside; input = found .ensures .fits .input; output = begun .ensures .room },
+      omega (arith, found .kept, given .0),
+      omega (arith, begun .kept, given .1),
+      omega (arith, given .2),
+    )
+
+same-length-5 : tie.Need-same-length-5
+same-length-5 c = search needs
+
+same-length-6 : tie.Need-same-length-6
+same-length-6 c = search needs
+
+same-length-7 : tie.Need-same-length-7
+same-length-7 c = search needs
+
+returns-3 : tie.Need-returns-3
+returns-3 c = search needs
+
+pub run-spec : {M : Type 1} → statement M
+run-spec =
+    tie.close
+    (tie.spec
+    next-requires
+    stop-requires
+    same-length
+    same-length-2
+    returns
+    add-to
+    sub-begin
+    part-begin-start
+    part-begin-end
+    begin-requires
+    same-length-3
+    same-length-4
+    returns-2
+    serve-requires
+    same-length-5
+    same-length-6
+    same-length-7
+    returns-3)

@@ -1,0 +1,88 @@
+-- `bench::stream::Stream::next` finds a whole record: a record's fixed part is no longer than the longest record. Assumes nothing.
+use borrow.Author.Needs.{needs}
+use Rattle.bench.proofs.Laws.{least-small}
+use Rattle.bench.proofs.stream.Stream.next.Statement.{statement}
+use Rattle.bench.proofs.stream.Stream.next.Tie as tie
+
+want-requires : tie.Need-want-requires
+want-requires c κs = search needs
+
+sub-left : tie.Need-sub-left
+sub-left c = search needs
+
+same-length : tie.Need-same-length
+same-length c = search needs
+
+returns : tie.Need-returns
+returns c = search needs
+
+bad-requires : tie.Need-bad-requires
+bad-requires c κs = search needs
+
+same-length-2 : tie.Need-same-length-2
+same-length-2 c = search needs
+
+returns-2 : tie.Need-returns-2
+returns-2 c = search needs
+
+slice-read-mark-of : tie.Need-slice-read-mark-of
+slice-read-mark-of c = search needs
+
+add-mark-of : tie.Need-add-mark-of
+add-mark-of c = search needs
+
+slice-read-mark-of-2 : tie.Need-slice-read-mark-of-2
+slice-read-mark-of-2 c = search needs
+
+mark-of-requires : tie.Need-mark-of-requires
+mark-of-requires c κs = search needs
+
+enum-told : tie.Need-enum-told
+enum-told c = search needs
+
+command-requires : tie.Need-command-requires
+command-requires c κs = search needs
+
+same-length-3 : tie.Need-same-length-3
+same-length-3 c = search needs
+
+returns-3 : tie.Need-returns-3
+returns-3 c = search needs
+
+least-size-requires : tie.Need-least-size-requires
+least-size-requires c κs = search needs
+
+whole-requires : tie.Need-whole-requires
+whole-requires c κs =
+    let small = least-small (c .before .before .before .mark-of .result) in
+    search needs
+
+same-length-4 : tie.Need-same-length-4
+same-length-4 c = search needs
+
+returns-4 : tie.Need-returns-4
+returns-4 c = search needs
+
+pub next-spec : {M : Type 1} → statement M
+next-spec =
+    tie.close
+    (tie.spec
+    want-requires
+    sub-left
+    same-length
+    returns
+    bad-requires
+    same-length-2
+    returns-2
+    slice-read-mark-of
+    add-mark-of
+    slice-read-mark-of-2
+    mark-of-requires
+    enum-told
+    command-requires
+    same-length-3
+    returns-3
+    least-size-requires
+    whole-requires
+    same-length-4
+    returns-4)

@@ -1,0 +1,57 @@
+-- `bench::stream::read_until` is safe and ends. The invariant: the end lies in the buffer, which keeps its length. The measure is what is left of
+-- the buffer, since a read that brings nothing ends the loop. Assumes nothing.
+use mathlib.Core.Path.{_≡_}
+use Prim.Native.Nat.{_≤_, _-_}
+use borrow.Author.Needs.{needs}
+use lib.ListN.{length}
+use Rattle.bench.proofs.stream.read_until.Statement.{statement}
+use Rattle.bench.proofs.stream.read_until.Tie as tie
+
+abbrev Inv-loop : tie.InvT-loop
+Inv-loop input₀ end n e₀ input e = (e ≤ length input) × (length input ≡ length input₀)
+
+abbrev μ-loop : tie.MeasureT-loop
+μ-loop input₀ end n e₀ input e = length input₀ - e
+
+loop-holds : tie.Need-loop-holds Inv-loop μ-loop
+loop-holds c = search needs
+
+read-once-requires : tie.Need-read-once-requires Inv-loop μ-loop
+read-once-requires c κs = search needs
+
+add-e : tie.Need-add-e Inv-loop μ-loop
+add-e c = search needs
+
+loop-less : tie.Need-loop-less Inv-loop μ-loop
+loop-less c = search needs
+
+loop-again : tie.Need-loop-again Inv-loop μ-loop
+loop-again c = search needs
+
+same-length : tie.Need-same-length Inv-loop μ-loop
+same-length c = search needs
+
+returns : tie.Need-returns Inv-loop μ-loop
+returns c = search needs
+
+same-length-2 : tie.Need-same-length-2 Inv-loop μ-loop
+same-length-2 c = search needs
+
+returns-2 : tie.Need-returns-2 Inv-loop μ-loop
+returns-2 c = search needs
+
+pub read-until-spec : {M : Type 1} → statement M
+read-until-spec =
+    tie.close
+    (tie.spec
+    Inv-loop
+    μ-loop
+    loop-holds
+    read-once-requires
+    add-e
+    loop-less
+    loop-again
+    same-length
+    returns
+    same-length-2
+    returns-2)

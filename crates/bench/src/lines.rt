@@ -1,0 +1,74 @@
+// The lines that are printed for records (document 01, "Bench program"): the mark, the return number, and what comes after it. The caller has seen
+// to the room of 4,200 bytes.
+use crate::output;
+use poison::line_test::LineTest;
+ghost use mathlib.Core.Path.{_≡_};
+ghost use Prim.Native.Nat.{_+_, _≤_};
+ghost use lib.ListN.{length};
+
+// The number of a line test's answer.
+pub fn answer_number(answer: LineTest) -> u64 {
+    match answer {
+        LineTest::Clean => 0,
+        LineTest::Damaged(_) => 1,
+        LineTest::Unknown => 2,
+    }
+}
+
+// The type that goes with a line test's answer: 0 if not damaged.
+pub fn answer_kind(answer: LineTest) -> u64 {
+    match answer {
+        LineTest::Clean => 0,
+        LineTest::Damaged(kind) => kind as u64,
+        LineTest::Unknown => 0,
+    }
+}
+
+// CM: the return number, the length of the reply, and its bytes, if there are any. (A refused command has a reply of length 0.)
+pub fn put_command(out: &mut [u8], used: usize, code: u16, reply: &[u8], n: usize) -> usize
+    requires { ⌜ (used + 4200 ≤ 65536) × (length (now out) ≡ 65536) × (n ≤ length (now reply)) × (length (now reply) ≡ 2048) ⌝ }
+    ensures { λ r. ⌜ r ≤ 65536 ⌝ }
+{
+    let head = output::begin_line(out, used, b'C', b'M', code);
+    let at = output::put_number(out, head, n as u64);
+    if n == 0 {
+        return output::end_line(out, at);
+    }
+    let end = output::put_bytes(out, at, reply, n);
+    output::end_line(out, end)
+}
+
+// EV: the return number; if that is 0, then 1 for stored or 0 for not.
+pub fn put_event(out: &mut [u8], used: usize, code: u16, stored: bool) -> usize
+    requires { ⌜ (used + 4200 ≤ 65536) × (length (now out) ≡ 65536) ⌝ }
+    ensures { λ r. ⌜ r ≤ 65536 ⌝ }
+{
+    let at = output::begin_line(out, used, b'E', b'V', code);
+    if code != 0 {
+        return output::end_line(out, at);
+    }
+    let end = output::put_number(out, at, if stored { 1 } else { 0 });
+    output::end_line(out, end)
+}
+
+// MD and LT: the mark, the return number; if that is 0, then two numbers.
+pub fn put_pair(
+    out: &mut [u8],
+    used: usize,
+    first: u8,
+    second: u8,
+    code: u16,
+    x: u64,
+    y: u64,
+) -> usize
+    requires { ⌜ (used + 4200 ≤ 65536) × (length (now out) ≡ 65536) ⌝ }
+    ensures { λ r. ⌜ r ≤ 65536 ⌝ }
+{
+    let head = output::begin_line(out, used, first, second, code);
+    if code != 0 {
+        return output::end_line(out, head);
+    }
+    let at = output::put_number(out, head, x);
+    let end = output::put_number(out, at, y);
+    output::end_line(out, end)
+}

@@ -1,0 +1,15 @@
+// The bench program (document 01, "Bench program"): reads records from standard input, gives each to the device, and prints a line for each.
+// One record is in memory at a time; the input may have any length. That it is safe and ends is proved; what it prints is tested.
+mod lines;
+mod output;
+mod records;
+mod serve;
+mod stream;
+
+fn main() {
+    let mut input = io::large_buffer();
+    let mut out = io::large_buffer();
+    let mut reply = [0u8; 2048];
+    let used = serve::run(&mut input, &mut out, &mut reply);
+    stream::flush(&out, used);
+}

@@ -1,0 +1,96 @@
+// The two buffers between the records and the system's calls: bytes read and not yet used, and bytes printed and not yet written.
+// What has been printed is written before more is read, so that a caller that waits for an answer gets it.
+use libc::STDIN_FILENO;
+use libc::STDOUT_FILENO;
+ghost use mathlib.Core.Path.{_≡_};
+ghost use Prim.Native.Nat.{_+_, _≤_};
+ghost use lib.ListN.{length};
+ghost use Rattle.bench.specs.Stream.{Fits};
+
+// The bytes at..end of the input buffer are not used yet; `at` lies `offset` bytes into the input; the first `used` bytes of the output buffer
+// are not written yet.
+pub struct Stream {
+    pub at: usize,
+    pub end: usize,
+    pub offset: u64,
+    pub used: usize,
+}
+
+// Writes the first n bytes of the output buffer. Where that fails there is nobody to tell.
+pub fn flush(out: &[u8], n: usize)
+    requires { ⌜ n ≤ length (now out) ⌝ }
+{
+    io::write_all(STDOUT_FILENO, &out[..n]);
+}
+
+// Sees to room for a line, of which none is longer than 4,200 bytes: how many bytes of the output buffer are not written then.
+pub fn make_room(out: &[u8], used: usize) -> usize
+    requires { ⌜ (used ≤ 65536) × (length (now out) ≡ 65536) ⌝ }
+    ensures { λ r. ⌜ r + 4200 ≤ 65536 ⌝ }
+{
+    if used <= 61336 {
+        return used;
+    }
+    flush(out, used);
+    0
+}
+
+// Moves the n bytes from index at on to the front.
+fn move_down(input: &mut [u8], at: usize, n: usize)
+    requires { ⌜ at + n ≤ length (now input) ⌝ }
+{
+    let mut i: usize = 0;
+    while i < n {
+        input[i] = input[at + i];
+        i += 1;
+    }
+}
+
+// Reads once into the buffer from index end on: how many bytes came, 0 at the end of the input.
+fn read_once(input: &mut [u8], end: usize) -> usize
+    requires { ⌜ end ≤ length (now input) ⌝ }
+    ensures { λ r. ⌜ end + r ≤ length (now (input .entry)) ⌝ }
+{
+    let got = libc::read(STDIN_FILENO, &mut input[end..]);
+    io::count(got, &input[end..])
+}
+
+// Reads into the buffer from index end on until it holds n bytes or the input ends: the new end.
+fn read_until(input: &mut [u8], end: usize, n: usize) -> usize
+    requires { ⌜ (end ≤ length (now input)) × (n ≤ length (now input)) ⌝ }
+    ensures { λ r. ⌜ r ≤ length (now (input .entry)) ⌝ }
+{
+    let mut e = end;
+    while e < n {
+        let got = read_once(input, e);
+        if got == 0 {
+            break;
+        }
+        e += got;
+    }
+    e
+}
+
+impl Stream {
+    // The stream with n bytes or more not used, or with all that the input has left.
+    pub fn want(self, input: &mut [u8], out: &[u8], n: usize) -> Stream
+        requires { ⌜ Fits self × (n ≤ 65536) × (length (now input) ≡ 65536) × (length (now out) ≡ 65536) ⌝ }
+        ensures { λ r. ⌜ Fits r × (r .offset ≡ self .offset) ⌝ }
+    {
+        let left = self.end - self.at;
+        if n <= left {
+            return self;
+        }
+        let at = self.at;
+        let used = self.used;
+        flush(out, used);
+        move_down(input, at, left);
+        let end = read_until(input, left, n);
+        Stream {
+            at: 0,
+            end,
+            offset: self.offset,
+            used: 0,
+        }
+    }
+}

@@ -1,0 +1,15 @@
+-- Demand 1 over every call: one that is refused leaves the device as it was. Assumes nothing.
+use mathlib.Core.Path.{_≡_, refl}
+use Rattle.mailbox.specs.State.{DeviceState}
+use Rattle.mailbox.proofs.Demand1.{refusal, event-refusal, media-refusal}
+use Rattle.history.specs.Calls.{Call, command, event-report, media-report, line-test, event-status, damage-total, step}
+
+-- Whatever the call and its arguments: where its return number is not 0, the device that follows is the one before.
+pub refused-step : (d : DeviceState) (c : Call) → (step d c .code ≡ 0 → ⊥) → step d c .next ≡ d
+unfolding step
+refused-step d (command opcode payload time room) r = refusal d opcode payload time room r .1
+refused-step d (event-report time log bytes) r = event-refusal d time log bytes r .1
+refused-step d (media-report time address lines kind) r = media-refusal d time address lines kind r .2
+refused-step d (line-test address) r = refl
+refused-step d event-status r = refl
+refused-step d damage-total r = refl

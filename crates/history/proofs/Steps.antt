@@ -1,0 +1,189 @@
+-- What each call does to the poison list and to the paper: it keeps the number of lines, and it keeps list and paper consistent. Assumes nothing.
+use mathlib.Core.Path.{_≡_, refl, _∙_}
+use mathlib.Core.Bool.{Bool, true, false, cond}
+use mathlib.Core.List.{List}
+use Prim.Native.Nat.{ℕ, _+_, _≤_, _<_}
+use native.Mathlib.Omega.{arith}
+use borrow.Author.Tests.{eqb-true, ltb-true, leb-true}
+use lib.Dec.{leb, ltb, eqb}
+use lib.ListN.{length}
+use Rattle.wire.specs.Wire.{field}
+use Rattle.poison.specs.State.{PoisonState}
+use Rattle.poison.specs.Inject.{injects}
+use Rattle.poison.specs.Report.{reportable}
+use Rattle.poison.specs.Paper.{Paper, paper-report}
+use Rattle.poison.proofs.Agreement.{Consistent, consistent-report, consistent-inject, consistent-clear}
+use Rattle.mailbox.specs.State.{DeviceState, lines-of}
+use Rattle.mailbox.specs.Outcome.{Outcome}
+use Rattle.mailbox.specs.Commands.{admission}
+use Rattle.mailbox.specs.Clock.{device-time}
+use Rattle.mailbox.specs.EventCommands.{clear-event-records}
+use Rattle.mailbox.specs.PoisonCommands.{aligned, line-of, line-code, range-code, inject-poison, clear-poison}
+use Rattle.mailbox.specs.Mailbox.{run-command, outcome}
+use Rattle.mailbox.specs.DeviceCalls as Device
+use Rattle.history.specs.Calls.{Call, command, event-report, media-report, line-test, event-status, damage-total, step}
+use Rattle.history.specs.Paper.{line-at, write-command, write}
+
+-- what holds of a device of n lines and a paper
+pub record Holds (n : ℕ) (d : DeviceState) (p : Paper) : Type 0 where
+  pub lines : lines-of d ≡ n
+  pub consistent : Consistent n (d .poison) p
+
+-- the part of a device that demand 3 speaks of
+pub record Same (d e : DeviceState) : Type 0 where
+  pub lines : lines-of e ≡ lines-of d
+  pub list : e .poison ≡ d .poison
+
+same-self : (d : DeviceState) → Same d d
+same-self d = record { lines = refl; list = refl }
+
+holds-same : (n : ℕ) (d e : DeviceState) (p : Paper) → Same d e → Holds n d p → Holds n e p
+holds-same n d e p s h = record { lines = s .lines ∙ h .lines; consistent = rw (s .list) (h .consistent) }
+
+-- of two outcomes that each leave it, whichever is taken leaves it
+either : (d : DeviceState) (b : Bool) (x y : Outcome) → Same d (x .next) → Same d (y .next) → Same d (cond b x y .next)
+either d true x y s t = s
+either d false x y s t = t
+
+-- a command that is neither Inject Poison nor Clear Poison leaves the list
+run-leaves : (d : DeviceState) (op : ℕ) (p : List ℕ) (t : ℕ) → eqb op 0x4301 ≡ false → eqb op 0x4302 ≡ false → Same d (run-command d op p t .next)
+unfolding run-command clear-event-records
+run-leaves d op p t i c =
+    rw (i, c)
+    (either d (eqb op 0x0100) _ _ (same-self d)
+    (either d (eqb op 0x0101) _ _ (record { lines = refl; list = refl })
+    (either d (eqb op 0x0102) _ _ (same-self d)
+    (either d (eqb op 0x0103) _ _ (record { lines = refl; list = refl })
+    (either d (eqb op 0x0300) _ _ (same-self d)
+    (either d (eqb op 0x0301) _ _ (record { lines = refl; list = refl })
+    (either d (eqb op 0x0400) _ _ (same-self d)
+    (either d (eqb op 0x0401) _ _ (same-self d)
+    (either d (eqb op 0x4000) _ _ (same-self d)
+    (either d (eqb op 0x4300) _ _ (same-self d)
+    (same-self d)))))))))))
+
+-- ---- the checks of an address that gave 0
+need-zero : (t : Bool) (r x : ℕ) → 0 < r → cond t x r ≡ 0 → (t ≡ true) × (x ≡ 0)
+need-zero true r x pos e = (refl, e)
+need-zero false r x pos e = absurd (omega arith)
+
+line-inside : (lines address : ℕ) → line-code lines address ≡ 0 → line-of address < lines
+unfolding line-code
+line-inside lines address e = ltb-true (line-of address) lines (need-zero (ltb (line-of address) lines) 0xf 0 (omega arith) (need-zero (aligned address) 2 _ (omega arith) e .1) .0)
+
+range-inside : (lines address n : ℕ) → range-code lines address n ≡ 0 → line-of address + n ≤ lines
+unfolding range-code
+range-inside lines address n e = leb-true (line-of address + n) lines (need-zero (leb (line-of address + n) lines) 0xf 0 (omega arith) (need-zero (aligned address) 2 _ (omega arith) e .1) .0)
+
+-- ---- Inject Poison and Clear Poison
+inject-keeps : (n : ℕ) (s : PoisonState) (p : Paper) (payload : List ℕ) → Consistent n s p
+    → Consistent n (inject-poison n s payload .list) (cond (eqb (inject-poison n s payload .code) 0) (write-command p 0x4301 payload) p)
+unfolding inject-poison
+inject-keeps n s p payload h = checked (eqb (line-code n a) 0) refl
+  where
+    a : ℕ
+    a = field payload 0 8
+
+    checked : (b : Bool) → eqb (line-code n a) 0 ≡ b
+        → Consistent n (inject-poison n s payload .list) (cond (eqb (inject-poison n s payload .code) 0) (write-command p 0x4301 payload) p)
+    checked true e = taken (injects s (line-of a)) refl
+      where
+        taken : (b : Bool) → injects s (line-of a) ≡ b
+            → Consistent n (inject-poison n s payload .list) (cond (eqb (inject-poison n s payload .code) 0) (write-command p 0x4301 payload) p)
+        taken true i = rw (e, i) (consistent-inject n s p h (line-of a) (line-inside n a (eqb-true (line-code n a) 0 e)) i)
+        taken false i = rw (e, i) h
+    checked false e = rw (e, e) h
+
+clear-keeps : (n : ℕ) (s : PoisonState) (p : Paper) (payload : List ℕ) (time : ℕ) → Consistent n s p
+    → Consistent n (clear-poison n s payload time .list) (cond (eqb (clear-poison n s payload time .code) 0) (write-command p 0x4302 payload) p)
+unfolding clear-poison
+clear-keeps n s p payload time h = checked (eqb (line-code n a) 0) refl
+  where
+    a : ℕ
+    a = field payload 0 8
+
+    checked : (b : Bool) → eqb (line-code n a) 0 ≡ b
+        → Consistent n (clear-poison n s payload time .list) (cond (eqb (clear-poison n s payload time .code) 0) (write-command p 0x4302 payload) p)
+    checked true e = rw e (consistent-clear n s p h (line-of a) time)
+    checked false e = rw (e, e) h
+
+-- ---- the device-side calls
+media-inside : (n address lines kind : ℕ) → Device.media-code n address lines kind ≡ 0 → line-of address + lines ≤ n
+unfolding Device.media-code
+media-inside n address lines kind e =
+    range-inside n address lines (need-zero (ltb 0 lines) 2 _ (omega arith) (need-zero (reportable kind) 2 _ (omega arith) e .1) .1)
+
+event-leaves : (d : DeviceState) (time log : ℕ) (bytes : List ℕ) → Same d (Device.event-report d time log bytes .next)
+unfolding Device.event-report
+event-leaves d time log bytes = record { lines = refl; list = refl }
+
+-- ---- the commands
+module _ (n : ℕ) (d : DeviceState) (p : Paper) (h : Holds n d p) where
+  -- at its opcode, each of the two
+  injects-hold : (op : ℕ) (payload : List ℕ) (time : ℕ) → op ≡ 0x4301
+      → Holds n (run-command d op payload time .next) (cond (eqb (run-command d op payload time .code) 0) (write-command p op payload) p)
+  unfolding run-command
+  injects-hold op payload time e =
+      rw e (record { lines = h .lines; consistent = rw (h .lines) (inject-keeps n (d .poison) p payload (h .consistent)) })
+
+  clears-hold : (op : ℕ) (payload : List ℕ) (time : ℕ) → op ≡ 0x4302
+      → Holds n (run-command d op payload time .next) (cond (eqb (run-command d op payload time .code) 0) (write-command p op payload) p)
+  unfolding run-command
+  clears-hold op payload time e =
+      rw e (record { lines = h .lines; consistent = rw (h .lines) (clear-keeps n (d .poison) p payload (device-time (d .clock) time) (h .consistent)) })
+
+  -- the paper of any other command is as it was, whatever it answers
+  as-it-was : (b : Bool) (op : ℕ) (payload : List ℕ) → eqb op 0x4301 ≡ false → eqb op 0x4302 ≡ false → cond b (write-command p op payload) p ≡ p
+  as-it-was true op payload i c = rw (i, c)
+  as-it-was false op payload i c = refl
+
+  run-holds : (op : ℕ) (payload : List ℕ) (time : ℕ)
+      → Holds n (run-command d op payload time .next) (cond (eqb (run-command d op payload time .code) 0) (write-command p op payload) p)
+  run-holds op payload time = inject (eqb op 0x4301) refl
+    where
+      inject : (b : Bool) → eqb op 0x4301 ≡ b
+          → Holds n (run-command d op payload time .next) (cond (eqb (run-command d op payload time .code) 0) (write-command p op payload) p)
+      inject true i = injects-hold op payload time (eqb-true op 0x4301 i)
+      inject false i = clear (eqb op 0x4302) refl
+        where
+          clear : (b : Bool) → eqb op 0x4302 ≡ b
+              → Holds n (run-command d op payload time .next) (cond (eqb (run-command d op payload time .code) 0) (write-command p op payload) p)
+          clear true c = clears-hold op payload time (eqb-true op 0x4302 c)
+          clear false c =
+              rw (as-it-was (eqb (run-command d op payload time .code) 0) op payload i c)
+              (holds-same n d (run-command d op payload time .next) p (run-leaves d op payload time i c) h)
+
+  command-holds : (op : ℕ) (payload : List ℕ) (time room : ℕ) → Holds n (outcome d op payload time room .next) (cond (eqb (outcome d op payload time room .code) 0) (write-command p op payload) p)
+  unfolding outcome
+  command-holds op payload time room = admitted (eqb (admission op (length payload) room) 0) refl
+    where
+      admitted : (b : Bool) → eqb (admission op (length payload) room) 0 ≡ b
+          → Holds n (outcome d op payload time room .next) (cond (eqb (outcome d op payload time room .code) 0) (write-command p op payload) p)
+      admitted true a = rw a (run-holds op payload time)
+      admitted false a = rw (a, a) h
+
+  -- a media report
+  media-holds : (time address lines kind : ℕ)
+      → Holds n (Device.media-report d time address lines kind .next) (cond (eqb (Device.media-report d time address lines kind .code) 0) (paper-report p (line-at address) lines) p)
+  unfolding Device.media-report
+  media-holds time address lines kind = checked (eqb (Device.media-code (lines-of d) address lines kind) 0) refl
+    where
+      checked : (b : Bool) → eqb (Device.media-code (lines-of d) address lines kind) 0 ≡ b
+          → Holds n (Device.media-report d time address lines kind .next) (cond (eqb (Device.media-report d time address lines kind .code) 0) (paper-report p (line-at address) lines) p)
+      checked true e =
+          rw e
+          (record {
+            lines = h .lines;
+            consistent = consistent-report n (d .poison) p (h .consistent) (line-of address) lines kind (device-time (d .clock) time) (media-inside n address lines kind (rw (h .lines) at (eqb-true (Device.media-code (lines-of d) address lines kind) 0 e)));
+          })
+      checked false e = rw (e, e) h
+
+  -- every call
+  pub call-holds : (c : Call) → Holds n (step d c .next) (write p c (step d c .code))
+  unfolding step write
+  call-holds (command opcode payload time room) = command-holds opcode payload time room
+  call-holds (event-report time log bytes) = holds-same n d (Device.event-report d time log bytes .next) p (event-leaves d time log bytes) h
+  call-holds (media-report time address lines kind) = media-holds time address lines kind
+  call-holds (line-test address) = h
+  call-holds event-status = h
+  call-holds damage-total = h

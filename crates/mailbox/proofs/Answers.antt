@@ -1,0 +1,74 @@
+-- What `command` ensures of its answer (`Answered`), by the kind of command: refused before its own checks, one that reads, one that changes a part of the
+-- device; and the device that follows a change is valid. Assumes nothing.
+use mathlib.Core.Path.{_≡_, refl, sym, ap, subst}
+use mathlib.Core.List.{List}
+use Prim.Native.Nat.{ℕ, _+_, _*_}
+use lib.ListN.{length}
+use borrow.Author.Tests.{ne-eqb}
+use Rattle.wire.specs.Wire.{splice}
+use Rattle.poison.specs.State as P
+use Rattle.poison.specs.declared.list.PoisonList.{PoisonList}
+use Rattle.events.specs.Log as E
+use Rattle.events.specs.declared.log.Log.{Log}
+use Rattle.mailbox.specs.declared.clock.Clock.{Clock}
+use Rattle.mailbox.specs.declared.device.Device.{Device}
+use Rattle.mailbox.specs.declared.device.Answer.{Answer}
+use Rattle.mailbox.specs.Numbers.{unit-lines, unsupported}
+use Rattle.mailbox.specs.State.{DeviceState, ValidDevice, state-of}
+use Rattle.mailbox.specs.Outcome.{Reply, Outcome, reads, changes, refused}
+use Rattle.mailbox.specs.Commands.{admission}
+use Rattle.mailbox.specs.Mailbox.{run-command, outcome}
+use Rattle.mailbox.specs.Contracts.{Answered}
+
+-- an answer to an equal outcome
+equal-outcome : {o o′ : Outcome} {d : Device} {r : Answer} {before after : List ℕ} → o ≡ o′ → Answered o′ d r before after → Answered o d r before after
+equal-outcome {o} {o′} {d} {r} {before} {after} e a = subst (λ (x : Outcome). Answered x d r before after) (sym e) a
+
+-- a command that reads: its number, the length of its reply, the buffer; the very same device
+pub read-answer : {d : Device} {o : Reply} {code n : ℕ} {before after : List ℕ} → ValidDevice d → code ≡ o .code → n ≡ length (o .bytes) → after ≡ splice 0 (o .bytes) before
+    → Answered (reads (state-of d) o) d (record { code = code; length = n; device = d }) before after
+read-answer v c n b = record { code = c; size = n; next = refl; bytes = b; refused = λ f. refl; valid = v }
+
+-- a command that changes a device d to e: its number, no reply, the buffer as it was
+pub change-answer : {d e : Device} {s : DeviceState} {code number : ℕ} {before : List ℕ} → ValidDevice e → code ≡ number → state-of e ≡ s → ((code ≡ 0 → ⊥) → e ≡ d)
+    → Answered (changes number s) d (record { code = code; length = 0; device = e }) before before
+unfolding splice
+change-answer v c s f = record { code = c; size = refl; next = s; bytes = refl; refused = f; valid = v }
+
+module _ (d : Device) (op : ℕ) (p : List ℕ) (t room : ℕ) where
+  -- refused by the checks before a command's own
+  pub refusal-answer : (code : ℕ) {before : List ℕ} → ValidDevice d → code ≡ admission op (length p) room → (code ≡ 0 → ⊥)
+      → Answered (outcome (state-of d) op p t room) d (record { code = code; length = 0; device = d }) before before
+  unfolding outcome splice
+  refusal-answer code v e h =
+      equal-outcome {o′ = refused code (state-of d)} (simp (sym e, ne-eqb _ _ h))
+      (record { code = refl; size = refl; next = refl; bytes = refl; refused = λ f. refl; valid = v })
+
+  -- admitted: the command of the opcode
+  pub answer-at : (o : ℕ) {r : Answer} {before after : List ℕ} → admission op (length p) room ≡ 0 → op ≡ o → Answered (run-command (state-of d) o p t) d r before after
+      → Answered (outcome (state-of d) op p t room) d r before after
+  unfolding outcome
+  answer-at o e h a = equal-outcome (simp e (ap (λ (x : ℕ). run-command (state-of d) x p t) h)) a
+
+  -- no command has the opcode
+  pub unknown-answer : {before : List ℕ} → ValidDevice d → admission op (length p) room ≡ 0 → run-command (state-of d) op p t ≡ refused unsupported (state-of d)
+      → Answered (outcome (state-of d) op p t room) d (record { code = unsupported; length = 0; device = d }) before before
+  unfolding splice
+  unknown-answer v e h =
+      answer-at op e refl
+      (equal-outcome h (record { code = refl; size = refl; next = refl; bytes = refl; refused = λ f. refl; valid = v }))
+
+-- the device with the logs, or the list, that it has
+pub same-logs : (d : Device) {ls : List Log} → ls ≡ d .logs
+    → record { volatile = d .volatile; persistent = d .persistent; clock = d .clock; policy = d .policy; logs = ls; poison = d .poison } ≡ d
+same-logs d e = λ i. record { volatile = d .volatile; persistent = d .persistent; clock = d .clock; policy = d .policy; logs = e i; poison = d .poison }
+
+pub same-list : (d : Device) {l : PoisonList} → l ≡ d .poison
+    → record { volatile = d .volatile; persistent = d .persistent; clock = d .clock; policy = d .policy; logs = d .logs; poison = l } ≡ d
+same-list d e = λ i. record { volatile = d .volatile; persistent = d .persistent; clock = d .clock; policy = d .policy; logs = d .logs; poison = e i }
+
+-- a device with other parts, each valid, of the same units
+pub valid-device : (d : Device) (c : Clock) (policy : List ℕ) (logs : List Log) (l : PoisonList) → ValidDevice d → E.ValidLogs logs
+    → P.ValidList (unit-lines * (d .volatile + d .persistent)) l
+    → ValidDevice (record { volatile = d .volatile; persistent = d .persistent; clock = c; policy = policy; logs = logs; poison = l })
+valid-device d c policy logs l v ls ps = record { some-unit = v .some-unit; few-units = v .few-units; logs = ls; poison = ps }

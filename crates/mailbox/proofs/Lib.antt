@@ -1,0 +1,12 @@
+pub mod Replies
+pub mod AdmissionLaws
+pub mod EffectsLaws
+pub mod IdentityLaws
+pub mod PolicyLaws
+pub mod Headers
+pub mod Addresses
+pub mod Answers
+pub mod EventAnswers
+pub mod ListAnswers
+pub mod DeviceAnswers
+pub mod Demand1

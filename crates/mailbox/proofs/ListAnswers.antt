@@ -1,0 +1,198 @@
+-- What the poison commands ensure of their answers (`ListDone`, and the reply of Get Poison List), by their cases. Assumes nothing.
+use mathlib.Core.Path.{_≡_, refl, sym, ap, ap₂, _∙_, subst}
+use mathlib.Core.Bool.{Bool, true, false, cond}
+use mathlib.Core.List.{List}
+use Prim.Native.Nat.{ℕ, _+_, _*_, _≤_, _<_, min}
+use native.Mathlib.Omega.{arith}
+use lib.ListN.{length, take, length-append, length-take}
+use borrow.Author.Tests.{ne-eqb}
+use Rattle.wire.specs.Wire.{field, splice}
+use Rattle.poison.specs.State.{PoisonState, capacity, ValidList, state-of, shapes, entries-of}
+use Rattle.poison.specs.Inject.{injects, after-inject, Injects}
+use Rattle.poison.specs.Clear.{after-clear, Clears}
+use Rattle.poison.specs.Range.{sharing, records-bytes, Wrote}
+use Rattle.poison.specs.declared.list.PoisonList.{PoisonList}
+use Rattle.poison.specs.declared.inject.Injected.{Injected}
+use Rattle.poison.proofs.RunLaws.{chain-higher}
+use Rattle.poison.proofs.Records.{length-records}
+use Rattle.mailbox.specs.declared.outcome.Done.{Done}
+use Rattle.mailbox.specs.declared.poison_commands.ListChanged.{ListChanged}
+use Rattle.mailbox.specs.declared.device.Device.{Device}
+use Rattle.mailbox.specs.Numbers.{unit-lines, mailbox-size, poison-records, success, inject-limit}
+use Rattle.mailbox.specs.State as D
+use Rattle.mailbox.specs.State.{ValidDevice}
+use Rattle.mailbox.specs.Outcome.{replied, no-reply, reads}
+use Rattle.mailbox.specs.Mailbox.{changes-list}
+use Rattle.mailbox.specs.PoisonCommands.{ListChange, line-of, line-code, range-code, inject-poison, clear-poison, list-header, list-reply, get-poison-list}
+use Rattle.mailbox.specs.Contracts.{Replied, ListDone, Answered}
+use Rattle.mailbox.proofs.Replies.{no-bytes, bytes-written, field-before}
+use Rattle.mailbox.proofs.Headers.{header-length}
+use Rattle.mailbox.proofs.Addresses.{line-inside}
+use Rattle.mailbox.proofs.Answers.{read-answer, change-answer, same-list, valid-device}
+
+-- a list that is valid on a device is valid on a larger one
+pub valid-more : {n m : ℕ} {l : PoisonList} → n ≤ m → ValidList n l → ValidList m l
+valid-more {n} {m} {l} h v = record { few = v .few; chain = chain-higher 0 n m (shapes (entries-of l)) h (v .chain); typed = v .typed }
+
+-- a command that changes the list, by its number and the list that follows
+pub list-done : {o : ListChange} {s : PoisonState} {lines code : ℕ} {l r : PoisonList} → o ≡ record { code = code; list = s } → state-of r ≡ s
+    → ((code ≡ 0 → ⊥) → r ≡ l) → ValidList lines r → ListDone o lines l (record { code = code; list = r })
+list-done {o} {s} {lines} {code} {l} {r} e n f v =
+    subst (λ (x : ListChange). ListDone x lines l (record { code = code; list = r })) (sym e) (record { code = refl; list = n; refused = f; valid = v })
+
+module _ (lines : ℕ) (s : PoisonState) (p : List ℕ) where
+  -- refused by the checks of the address
+  module _ (code : ℕ) (e : code ≡ line-code lines (field p 0 8)) (f : code ≡ 0 → ⊥) where
+    pub inject-refused : inject-poison lines s p ≡ record { code = code; list = s }
+    unfolding inject-poison
+    inject-refused = simp (sym e, ne-eqb _ _ f)
+
+    pub clear-refused : (time : ℕ) → clear-poison lines s p time ≡ record { code = code; list = s }
+    unfolding clear-poison
+    clear-refused time = simp (sym e, ne-eqb _ _ f)
+
+  -- past those checks
+  module _ (e : line-code lines (field p 0 8) ≡ 0) where
+    pub inject-taken : injects s (line-of (field p 0 8)) ≡ true → inject-poison lines s p ≡ record { code = success; list = after-inject s (line-of (field p 0 8)) }
+    unfolding inject-poison
+    inject-taken t = simp (e, t)
+
+    pub inject-full : injects s (line-of (field p 0 8)) ≡ false → inject-poison lines s p ≡ record { code = inject-limit; list = s }
+    unfolding inject-poison
+    inject-full t = simp (e, t)
+
+    pub clear-taken : (time : ℕ) → clear-poison lines s p time ≡ record { code = success; list = after-clear s (line-of (field p 0 8)) time }
+    unfolding clear-poison
+    clear-taken time = simp e
+
+  -- Get Poison List
+  pub get-refused : (code : ℕ) → code ≡ range-code lines (field p 0 8) (field p 8 8) → (code ≡ 0 → ⊥) → get-poison-list lines s p ≡ no-reply code
+  unfolding get-poison-list
+  get-refused code e f = simp (sym e, ne-eqb _ _ f)
+
+  pub get-taken : range-code lines (field p 0 8) (field p 8 8) ≡ 0 → get-poison-list lines s p ≡ replied (list-reply s (line-of (field p 0 8)) (field p 8 8))
+  unfolding get-poison-list
+  get-taken e = simp e
+
+-- the reply for n lines from a on: the records written first, then the header before them
+module _ (s : PoisonState) (a n found count : ℕ) (isf : found ≡ length (sharing a n (s .entries))) (isc : count ≡ min poison-records found) where
+  count-is : count ≡ length (take poison-records (sharing a n (s .entries)))
+  count-is = isc ∙ ap (min poison-records) isf ∙ sym (length-take poison-records (sharing a n (s .entries)))
+
+  pub reply-length : 32 + 16 * count ≡ length (list-reply s a n)
+  unfolding list-reply
+  reply-length =
+      let h = header-length (s .overflow) (s .overflow-time) (length (sharing a n (s .entries))) (length (take poison-records (sharing a n (s .entries)))) in
+      let r = length-records (take poison-records (sharing a n (s .entries))) in
+      let c = count-is in
+      simp length-append (omega arith)
+
+  pub reply-written : (xs : List ℕ) → 2048 ≤ length xs
+      → splice 0 (list-header (s .overflow) (s .overflow-time) found count) (splice 32 (records-bytes (take poison-records (sharing a n (s .entries)))) xs)
+      ≡ splice 0 (list-reply s a n) xs
+  unfolding list-reply
+  reply-written xs h =
+      let rs = records-bytes (take poison-records (sharing a n (s .entries))) in
+      let r = length-records (take poison-records (sharing a n (s .entries))) in
+      let c = count-is in
+      ap (λ (x : ℕ). splice 0 (list-header (s .overflow) (s .overflow-time) x count) (splice 32 rs xs)) isf
+      ∙ ap (λ (x : ℕ). splice 0 (list-header (s .overflow) (s .overflow-time) (length (sharing a n (s .entries))) x) (splice 32 rs xs)) c
+      ∙ field-before 32 _ rs xs (sym (header-length _ _ _ _)) (omega arith)
+
+-- ---- the answers, from what the list's functions ensure at the line of an address that was read from the payload
+module _ (lines : ℕ) (l : PoisonList) (p : List ℕ) (address : ℕ) (e : address ≡ field p 0 8) where
+  address-code : (code : ℕ) → code ≡ line-code lines address → code ≡ line-code lines (field p 0 8)
+  address-code code h = h ∙ ap (line-code lines) e
+
+  module _ (v : ValidList lines l) where
+    pub inject-refusal : (code : ℕ) → code ≡ line-code lines address → (code ≡ 0 → ⊥)
+        → ListDone (inject-poison lines (state-of l) p) lines l (record { code = code; list = l })
+    inject-refusal code h f = list-done (inject-refused lines (state-of l) p code (address-code code h) f) refl (λ g. refl) v
+
+    pub clear-refusal : (time code : ℕ) → code ≡ line-code lines address → (code ≡ 0 → ⊥)
+        → ListDone (clear-poison lines (state-of l) p time) lines l (record { code = code; list = l })
+    clear-refusal time code h f = list-done (clear-refused lines (state-of l) p code (address-code code h) f time) refl (λ g. refl) v
+
+    module _ (z : line-code lines address ≡ 0) where
+      at-field : line-code lines (field p 0 8) ≡ 0
+      at-field = sym (address-code 0 (sym z))
+
+      below : line-of (field p 0 8) < lines
+      below = line-inside lines (field p 0 8) at-field
+
+      module _ (r : Injected) (a : Injects l (line-of address) r) where
+        here : Injects l (line-of (field p 0 8)) r
+        here = subst (λ (x : ℕ). Injects l (line-of x) r) e a
+
+        either : (b : Bool) → r .done ≡ b
+            → state-of (r .list) ≡ cond b (after-inject (state-of l) (line-of (field p 0 8))) (state-of l)
+        either b d = here .state ∙ ap (λ (x : Bool). cond x (after-inject (state-of l) (line-of (field p 0 8))) (state-of l)) (sym (here .done) ∙ d)
+
+        pub inject-success : r .done ≡ true → ListDone (inject-poison lines (state-of l) p) lines l (record { code = success; list = r .list })
+        inject-success d =
+            list-done (inject-taken lines (state-of l) p at-field (sym (here .done) ∙ d)) (either true d) (λ f. absurd (f refl)) (here .valid lines v below)
+
+        pub inject-no-room : r .done ≡ false → ListDone (inject-poison lines (state-of l) p) lines l (record { code = inject-limit; list = r .list })
+        inject-no-room d =
+            list-done (inject-full lines (state-of l) p at-field (sym (here .done) ∙ d)) (either false d) (λ f. here .refused d) (here .valid lines v below)
+
+      pub clear-success : (time : ℕ) (r : PoisonList) → Clears l (line-of address) time r
+          → ListDone (clear-poison lines (state-of l) p time) lines l (record { code = success; list = r })
+      clear-success time r a =
+          let here = subst (λ (x : ℕ). Clears l (line-of x) time r) e a in
+          list-done (clear-taken lines (state-of l) p at-field time) (here .state) (λ f. absurd (f refl)) (here .valid lines v)
+
+  module _ (n : ℕ) (m : n ≡ field p 8 8) where
+    range-at : range-code lines address n ≡ range-code lines (field p 0 8) (field p 8 8)
+    range-at = ap₂ (range-code lines) e m
+
+    pub get-refusal : (code : ℕ) {before : List ℕ} → code ≡ range-code lines address n → (code ≡ 0 → ⊥)
+        → Replied (get-poison-list lines (state-of l) p) (record { code = code; length = 0 }) before before
+    get-refusal code h f = no-bytes (get-refused lines (state-of l) p code (h ∙ range-at) f)
+
+    pub get-reply : (found count : ℕ) {before middle after : List ℕ} → range-code lines address n ≡ 0
+        → Wrote l (line-of address) n poison-records 32 found before middle → count ≡ min poison-records found
+        → after ≡ splice 0 (list-header (l .overflow) (l .«overflow_time») found count) middle → mailbox-size ≤ length before
+        → Replied (get-poison-list lines (state-of l) p) (record { code = success; length = 32 + 16 * count }) before after
+    get-reply found count {before} {middle} {after} z w isc h room =
+        let s = state-of l in
+        let k = line-of (field p 0 8) in
+        let here : Wrote l k (field p 8 8) poison-records 32 found before middle
+        = subst (λ (x : ℕ). Wrote l k x poison-records 32 found before middle) m (subst (λ (x : ℕ). Wrote l (line-of x) n poison-records 32 found before middle) e w) in
+        bytes-written (get-taken lines s p (sym range-at ∙ z)) (reply-length s k (field p 8 8) found count (here .number) isc)
+        (h ∙ ap (splice 0 (list-header (l .overflow) (l .«overflow_time») found count)) (here .bytes)
+        ∙ reply-written s k (field p 8 8) found count (here .number) isc before room)
+
+-- ---- at the mailbox
+module _ (d : Device) (lines : ℕ) (v : ValidDevice d) (e : lines ≡ unit-lines * (d .volatile + d .persistent)) where
+  -- the device's list is valid on its lines, of which there are not too many
+  pub device-list : ValidList lines (d .poison)
+  device-list = valid-more (omega arith) (v .poison)
+
+  pub device-lines : lines ≤ capacity
+  device-lines = omega (arith, v .few-units)
+
+  -- and so on the largest device, as the list's functions ask
+  pub device-any : ValidList capacity (d .poison)
+  device-any = valid-more device-lines device-list
+
+  pub list-read : (p : List ℕ) {r : Done} {before after : List ℕ} → Replied (get-poison-list lines (state-of (d .poison)) p) r before after
+      → Answered (reads (D.state-of d) (get-poison-list (D.lines-of (D.state-of d)) (state-of (d .poison)) p)) d (record { code = r .code; length = r .length; device = d }) before after
+  list-read p {r} {before} {after} a =
+      let b : Replied (get-poison-list (D.lines-of (D.state-of d)) (state-of (d .poison)) p) r before after
+      = subst (λ (n : ℕ). Replied (get-poison-list n (state-of (d .poison)) p) r before after) e a in
+      read-answer v (b .code) (b .size) (b .bytes)
+
+  pub list-change : {o o′ : ListChange} {r : ListChanged} {before : List ℕ} → o ≡ o′ → ListDone o lines (d .poison) r
+      → Answered (changes-list (D.state-of d) o′) d
+      (record {
+        code = r .code;
+        length = 0;
+        device = record { volatile = d .volatile; persistent = d .persistent; clock = d .clock; policy = d .policy; logs = d .logs; poison = r .list };
+      })
+      before before
+  list-change {o} {o′} {r} s a =
+      change-answer (valid-device d _ _ _ _ v (v .logs) (subst (λ (n : ℕ). ValidList n (r .list)) e (a .valid)))
+      (a .code ∙ ap (λ (x : ListChange). x .code) s)
+      (ap (D.with-poison (D.state-of d)) (a .list ∙ ap (λ (x : ListChange). x .list) s))
+      (λ f. same-list d (a .refused f))

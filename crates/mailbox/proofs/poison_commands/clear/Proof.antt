@@ -1,0 +1,46 @@
+use Prim.Native.Nat.{_/_}
+use Rattle.poison.specs.State.{capacity}
+use Rattle.mailbox.specs.PoisonCommands.{line-code}
+use Rattle.mailbox.proofs.Addresses.{line-inside}
+use Rattle.mailbox.proofs.ListAnswers.{valid-more, clear-refusal, clear-success}
+use mathlib.Core.Path.{_≡_, sym, _∙_}
+use Prim.Native.Nat.{_<_, _-_}
+use native.Mathlib.Omega.{arith}
+use borrow.Author.Needs.{needs}
+use Rattle.mailbox.proofs.poison_commands.clear.Statement.{statement}
+use Rattle.mailbox.proofs.poison_commands.clear.Tie as tie
+
+-- past the checks, the line is one of the device
+zero : (c : tie.Else1) → line-code (c .before .before .before .before .args .lines) (c .before .before .get .result) ≡ 0
+zero c = sym (c .before .check-line .ensures) ∙ c .if1 .left
+
+inside : (c : tie.Else1) → c .before .before .get .result / 64 < capacity
+inside c =
+    let h = line-inside _ _ (zero c) in
+    let k = c .before .before .before .before .pre .1 in
+    omega (arith, h, k)
+
+get-requires : tie.Need-get-requires
+get-requires c κs = search needs
+
+check-line-requires : tie.Need-check-line-requires
+check-line-requires c κs = search needs
+
+returns : tie.Need-returns
+returns c = clear-refusal _ _ _ _ (c .before .before .get .ensures .value) (c .before .before .before .before .pre .0) _ _ (c .before .check-line .ensures) (c .if1 .taken)
+
+cast-line : tie.Need-cast-line
+cast-line c = let h = inside c in record { fits = omega (arith, h) }
+
+clear-requires : tie.Need-clear-requires
+clear-requires c κs = let s = c .before .before .before .before in (valid-more (s .pre .1) (s .pre .0), inside c)
+
+returns-2 : tie.Need-returns-2
+returns-2 c =
+    let e = c .before in
+    clear-success _ _ _ _ (e .before .before .get .ensures .value) (e .before .before .before .before .pre .0) (zero e) _ _ (c .clear .ensures)
+
+pub clear-spec : {M : Type 1} → statement M
+clear-spec =
+    tie.close
+    (tie.spec get-requires check-line-requires returns cast-line clear-requires returns-2)

@@ -1,0 +1,79 @@
+-- What the functions of this crate ensure: records of equations between their answers and the definitions, one field for each part of an answer.
+-- Assumes nothing.
+use Prim.Native.Nat.{ℕ}
+use mathlib.Core.Path.{_≡_}
+use mathlib.Core.List.{List}
+use lib.ListN.{length}
+use Rattle.wire.specs.Wire.{splice}
+use Rattle.poison.specs.State as P
+use Rattle.poison.specs.declared.list.PoisonList.{PoisonList}
+use Rattle.events.specs.declared.status.Status.{Status}
+use Rattle.events.specs.Status.{StatusOutcome}
+use Rattle.mailbox.specs.declared.outcome.Done.{Done}
+use Rattle.mailbox.specs.declared.poison_commands.ListChanged.{ListChanged}
+use Rattle.mailbox.specs.declared.device.Device.{Device}
+use Rattle.mailbox.specs.declared.device.Made.{Made}
+use Rattle.mailbox.specs.declared.device.Answer.{Answer}
+use Rattle.mailbox.specs.declared.device_calls.EventAnswer.{EventAnswer}
+use Rattle.mailbox.specs.declared.device_calls.MediaAnswer.{MediaAnswer}
+use Rattle.mailbox.specs.declared.device_calls.LineAnswer.{LineAnswer}
+use Rattle.mailbox.specs.State.{ValidDevice, state-of}
+use Rattle.mailbox.specs.Outcome.{Reply, Outcome}
+use Rattle.mailbox.specs.PoisonCommands.{ListChange}
+use Rattle.mailbox.specs.DeviceCalls.{MakeOutcome, EventOutcome, MediaOutcome, LineOutcome}
+
+-- a command that reads, with the reply buffer before and after it: "On Success of length n the first n reply bytes are written, the others stay."
+pub record Replied (o : Reply) (r : Done) (before after : List ℕ) : Type 0 where
+  pub code : r .code ≡ o .code
+  pub size : r .length ≡ length (o .bytes)
+  pub bytes : after ≡ splice 0 (o .bytes) before
+
+-- a command that changes the poison list; a refusal hands back the very same list
+pub record ListDone (o : ListChange) (lines : ℕ) (l : PoisonList) (r : ListChanged) : Type 0 where
+  pub code : r .code ≡ o .code
+  pub list : P.state-of (r .list) ≡ o .list
+  pub refused : (r .code ≡ 0 → ⊥) → r .list ≡ l
+  pub valid : P.ValidList lines (r .list)
+
+-- `command`: number, length, next device, every byte of the buffer; the premise given back; a refusal hands back the very same device
+pub record Answered (o : Outcome) (d : Device) (r : Answer) (before after : List ℕ) : Type 0 where
+  pub code : r .code ≡ o .code
+  pub size : r .length ≡ length (o .reply)
+  pub next : state-of (r .device) ≡ o .next
+  pub bytes : after ≡ splice 0 (o .reply) before
+  pub refused : (r .code ≡ 0 → ⊥) → r .device ≡ d
+  pub valid : ValidDevice (r .device)
+
+-- `make`
+pub record Makes (o : MakeOutcome) (r : Made) : Type 0 where
+  pub code : r .code ≡ o .code
+  pub next : state-of (r .device) ≡ o .next
+  pub valid : ValidDevice (r .device)
+
+-- `event_report`
+pub record EventDone (o : EventOutcome) (d : Device) (r : EventAnswer) : Type 0 where
+  pub code : r .code ≡ o .code
+  pub stored : r .stored ≡ o .stored
+  pub next : state-of (r .device) ≡ o .next
+  pub refused : (r .code ≡ 0 → ⊥) → r .device ≡ d
+  pub valid : ValidDevice (r .device)
+
+-- `media_report`
+pub record MediaDone (o : MediaOutcome) (d : Device) (r : MediaAnswer) : Type 0 where
+  pub code : r .code ≡ o .code
+  pub stored : r .stored ≡ o .stored
+  pub dropped : r .dropped ≡ o .dropped
+  pub next : state-of (r .device) ≡ o .next
+  pub refused : (r .code ≡ 0 → ⊥) → r .device ≡ d
+  pub valid : ValidDevice (r .device)
+
+-- `line_test`
+pub record LineDone (o : LineOutcome) (r : LineAnswer) : Type 0 where
+  pub code : r .code ≡ o .code
+  pub answer : r .answer ≡ o .answer
+
+-- `event_status`
+pub record StatusGiven (o : StatusOutcome) (r : Status) : Type 0 where
+  pub bits : r .bits ≡ o .bits
+  pub waiting : r .waiting ≡ o .waiting
+  pub highest : r .highest ≡ o .highest

@@ -1,0 +1,13 @@
+pub mod Numbers
+pub mod State
+pub mod Outcome
+pub mod Commands
+pub mod Clock
+pub mod Policy
+pub mod EffectsLog
+pub mod Identity
+pub mod EventCommands
+pub mod PoisonCommands
+pub mod Mailbox
+pub mod DeviceCalls
+pub mod Contracts

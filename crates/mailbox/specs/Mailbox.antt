@@ -1,0 +1,43 @@
+-- What the mailbox answers to any opcode, payload, caller's time and size of the reply buffer: demand 2 for the commands. Assumes nothing.
+use Prim.Native.Nat.{ℕ}
+use mathlib.Core.Bool.{cond}
+use mathlib.Core.List.{List}
+use lib.Dec.{eqb}
+use lib.ListN.{length}
+use Rattle.mailbox.specs.Numbers.{success, unsupported}
+use Rattle.mailbox.specs.State.{DeviceState, lines-of, with-clock, with-policy, with-poison}
+use Rattle.mailbox.specs.Outcome.{Outcome, reads, changes, refused, need}
+use Rattle.mailbox.specs.Commands.{admission}
+use Rattle.mailbox.specs.Clock.{device-time, get-timestamp, set-timestamp}
+use Rattle.mailbox.specs.Policy.{get-policy, set-policy}
+use Rattle.mailbox.specs.EffectsLog.{get-supported-logs, get-log}
+use Rattle.mailbox.specs.Identity.{identify}
+use Rattle.mailbox.specs.EventCommands.{get-event-records, clear-event-records}
+use Rattle.mailbox.specs.PoisonCommands.{ListChange, get-poison-list, inject-poison, clear-poison}
+
+-- the outcome of a command that changes the poison list
+abbrev pub changes-list : DeviceState → ListChange → Outcome
+changes-list d c = changes (c .code) (with-poison d (c .list))
+
+-- the command of an opcode, after the checks before its own
+unfoldable pub run-command : DeviceState → ℕ → List ℕ → ℕ → Outcome
+run-command d op p time =
+    cond (eqb op 0x0100) (reads d (get-event-records (d .logs) p))
+    (cond (eqb op 0x0101) (clear-event-records d p)
+    (cond (eqb op 0x0102) (reads d (get-policy (d .policy)))
+    (cond (eqb op 0x0103) (changes success (with-policy d (set-policy (d .policy) p)))
+    (cond (eqb op 0x0300) (reads d (get-timestamp (d .clock) time))
+    (cond (eqb op 0x0301) (changes success (with-clock d (set-timestamp p time)))
+    (cond (eqb op 0x0400) (reads d get-supported-logs)
+    (cond (eqb op 0x0401) (reads d (get-log p))
+    (cond (eqb op 0x4000) (reads d (identify (d .volatile) (d .persistent)))
+    (cond (eqb op 0x4300) (reads d (get-poison-list (lines-of d) (d .poison) p))
+    (cond (eqb op 0x4301) (changes-list d (inject-poison (lines-of d) (d .poison) p))
+    (cond (eqb op 0x4302) (changes-list d (clear-poison (lines-of d) (d .poison) p (device-time (d .clock) time)))
+    (refused unsupported d))))))))))))
+
+-- the answer to a command: "Order for a command", then the command
+unfoldable pub outcome : DeviceState → ℕ → List ℕ → ℕ → ℕ → Outcome
+outcome d op p time room =
+    need (eqb (admission op (length p) room) 0) (refused (admission op (length p) room) d)
+    (run-command d op p time)

@@ -1,0 +1,61 @@
+// The checks before a command's own (document 01, "Return numbers", "Order for a command").
+ghost use mathlib.Core.Path.{_≡_};
+ghost use mathlib.Core.Bool.{_||_};
+ghost use lib.Dec.{eqb, leb};
+ghost use Rattle.mailbox.specs.Numbers.{invalid-length};
+ghost use Rattle.mailbox.specs.Outcome.{need};
+ghost use Rattle.mailbox.specs.Commands.{admission};
+
+// The number that is given before a command's own checks, 0 where there is none.
+pub fn admitted(opcode: u16, length: usize, room: usize) -> u16
+    ensures { λ r. ⌜ r ≡ admission opcode length room ⌝ }
+{
+    if room < 2048 {
+        return 0x100;
+    }
+    if 2048 < length {
+        return 0x16;
+    }
+    match opcode {
+        0x0100 => exactly(length, 1),
+        0x0101 => at_least(length, 6),
+        0x0102 => exactly(length, 0),
+        0x0103 => four_or_five(length),
+        0x0300 => exactly(length, 0),
+        0x0301 => exactly(length, 8),
+        0x0400 => exactly(length, 0),
+        0x0401 => exactly(length, 24),
+        0x4000 => exactly(length, 0),
+        0x4300 => exactly(length, 16),
+        0x4301 => exactly(length, 8),
+        0x4302 => exactly(length, 72),
+        _ => 3,
+    }
+}
+
+// A payload of k bytes and no other.
+fn exactly(length: usize, k: usize) -> u16
+    ensures { λ r. ⌜ r ≡ need (eqb length k) invalid-length 0 ⌝ }
+{
+    if length == k { 0 } else { 0x16 }
+}
+
+// A payload of k bytes or more.
+fn at_least(length: usize, k: usize) -> u16
+    ensures { λ r. ⌜ r ≡ need (leb k length) invalid-length 0 ⌝ }
+{
+    if k <= length { 0 } else { 0x16 }
+}
+
+// A payload of four bytes or five.
+fn four_or_five(length: usize) -> u16
+    ensures { λ r. ⌜ r ≡ need (eqb length 4 || eqb length 5) invalid-length 0 ⌝ }
+{
+    if length == 4 {
+        return 0;
+    }
+    if length == 5 {
+        return 0;
+    }
+    0x16
+}

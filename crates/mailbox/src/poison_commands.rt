@@ -1,0 +1,179 @@
+// The poison commands: the checks of an address, then the poison list's own functions (document 01, "Poison list"). No sum of an address and a
+// number of lines is made in 64 bits before it is known to fit: "Sums are of whole numbers."
+use crate::outcome::Done;
+use poison::list::PoisonList;
+ghost use mathlib.Core.Path.{_≡_};
+ghost use mathlib.Core.Bool.{cond};
+ghost use Prim.Native.Nat.{_+_, _≤_, _<_, min};
+ghost use lib.Dec.{eqb, leb, ltb};
+ghost use lib.ListN.{length};
+ghost use Rattle.wire.specs.Wire.{splice};
+ghost use Rattle.poison.specs.State.{capacity, ValidList, state-of};
+ghost use Rattle.mailbox.specs.Numbers.{poison-records, invalid-input, invalid-address};
+ghost use Rattle.mailbox.specs.Outcome.{need};
+ghost use Rattle.mailbox.specs.PoisonCommands.{aligned, line-code, range-code};
+ghost use Rattle.mailbox.specs.PoisonCommands.{list-flags, list-header, get-poison-list, inject-poison, clear-poison};
+ghost use Rattle.mailbox.specs.Contracts.{Replied, ListDone};
+
+// What a command that changes the list gives.
+pub struct ListChanged {
+    pub code: u16,
+    pub list: PoisonList,
+}
+
+// The first of two return numbers that refuses, 0 where none does: what is checked first decides.
+fn first_refusal(first: u16, second: u16) -> u16
+    ensures { λ r. ⌜ r ≡ need (eqb first 0) first second ⌝ }
+{
+    if first != 0 { first } else { second }
+}
+
+// The check that an address is a line's.
+fn check_aligned(address: u64) -> u16
+    ensures { λ r. ⌜ r ≡ need (aligned address) invalid-input 0 ⌝ }
+{
+    if address % 64 != 0 { 2 } else { 0 }
+}
+
+// The check that n lines from a line on end on a device of `lines` lines. n is tested by itself first: the sum is then small.
+fn check_end(lines: u32, line: u64, n: u64) -> u16
+    requires { ⌜ line < 288230376151711744 ⌝ }
+    ensures { λ r. ⌜ r ≡ need (leb (line + n) lines) invalid-address 0 ⌝ }
+{
+    let all = lines as u64;
+    if all < n {
+        return 0xf;
+    }
+    if all < line + n { 0xf } else { 0 }
+}
+
+// The checks of one line of a device of `lines` lines, 0 where there is nothing to refuse.
+pub fn check_line(lines: u32, address: u64) -> u16
+    ensures { λ r. ⌜ r ≡ line-code lines address ⌝ }
+{
+    check_range(lines, address, 1)
+}
+
+// The checks of n lines from an address on, 0 where there is nothing to refuse.
+pub fn check_range(lines: u32, address: u64, n: u64) -> u16
+    ensures { λ r. ⌜ r ≡ range-code lines address n ⌝ }
+{
+    let aligned = check_aligned(address);
+    let inside = check_end(lines, address / 64, n);
+    first_refusal(aligned, inside)
+}
+
+// Inject Poison.
+pub fn inject(list: PoisonList, lines: u32, payload: &[u8]) -> ListChanged
+    requires { ⌜ ValidList lines list × (lines ≤ capacity) × (length (now payload) ≡ 8) ⌝ }
+    ensures { λ r. ⌜ ListDone (inject-poison lines (state-of list) (now (payload .entry))) lines list r ⌝ }
+{
+    let address = wire::get(payload, 0, 8);
+    let code = check_line(lines, address);
+    if code != 0 {
+        return ListChanged { code, list };
+    }
+    let line = (address / 64) as u32;
+    let injected = list.inject(line);
+    let next = injected.list;
+    if injected.done {
+        ListChanged {
+            code: 0,
+            list: next,
+        }
+    } else {
+        ListChanged {
+            code: 0x10,
+            list: next,
+        }
+    }
+}
+
+// Clear Poison, at a device time. The payload's data is the caller's to write.
+pub fn clear(list: PoisonList, lines: u32, payload: &[u8], time: u64) -> ListChanged
+    requires { ⌜ ValidList lines list × (lines ≤ capacity) × (length (now payload) ≡ 72) ⌝ }
+    ensures { λ r. ⌜ ListDone (clear-poison lines (state-of list) (now (payload .entry)) time) lines list r ⌝ }
+{
+    let address = wire::get(payload, 0, 8);
+    let code = check_line(lines, address);
+    if code != 0 {
+        return ListChanged { code, list };
+    }
+    let line = (address / 64) as u32;
+    let next = list.clear(line, time);
+    ListChanged {
+        code: 0,
+        list: next,
+    }
+}
+
+// The flags of Get Poison List's reply.
+fn flags(overflow: bool, n: usize) -> u8
+    ensures { λ r. ⌜ r ≡ list-flags overflow n ⌝ }
+{
+    more(n) | (bit(overflow) << 1)
+}
+
+// 1 if more than 126 entries share a line with the range, else 0.
+fn more(n: usize) -> u8
+    ensures { λ r. ⌜ (r ≡ cond (ltb poison-records n) 1 0) × (r < 2) ⌝ }
+{
+    if 126 < n { 1 } else { 0 }
+}
+
+// 1 for true, 0 for false.
+fn bit(b: bool) -> u8
+    ensures { λ r. ⌜ (r ≡ cond b 1 0) × (r < 2) ⌝ }
+{
+    if b { 1 } else { 0 }
+}
+
+// The 32 bytes before the records of Get Poison List's reply, where n entries share a line with the range.
+fn put_header(reply: &mut [u8], overflow: bool, time: u64, n: usize, count: usize)
+    requires { ⌜ (32 ≤ length (now reply)) × (count < 65536) ⌝ }
+    ensures { λ _. ⌜ now (reply .exit) ≡ splice 0 (list-header overflow time n count) (now (reply .entry)) ⌝ }
+{
+    let since = time_shown(overflow, time);
+    wire::put(reply, 0, 1, flags(overflow, n) as u64);
+    wire::put(reply, 1, 1, 0);
+    wire::put(reply, 2, 8, since);
+    wire::put(reply, 10, 2, count as u64);
+    wire::put(reply, 12, 20, 0);
+}
+
+// The overflow time, 0 while the flag is clear.
+fn time_shown(overflow: bool, time: u64) -> u64
+    ensures { λ r. ⌜ r ≡ cond overflow time 0 ⌝ }
+{
+    if overflow { time } else { 0 }
+}
+
+// How many records a reply carries of n found: at most 126.
+fn carried(n: usize) -> usize
+    ensures { λ r. ⌜ r ≡ min poison-records n ⌝ }
+{
+    if n < 126 { n } else { 126 }
+}
+
+// Get Poison List. The records are written first: that tells how many entries share a line with the range, which the header says.
+pub fn get(list: PoisonList, lines: u32, payload: &[u8], reply: &mut [u8]) -> Done
+    requires { ⌜ ValidList lines list × (lines ≤ capacity) × (length (now payload) ≡ 16) × (2048 ≤ length (now reply)) ⌝ }
+    ensures { λ r. ⌜ Replied (get-poison-list lines (state-of list) (now (payload .entry))) r (now (reply .entry)) (now (reply .exit)) ⌝ }
+{
+    let address = wire::get(payload, 0, 8);
+    let n = wire::get(payload, 8, 8);
+    let code = check_range(lines, address, n);
+    if code != 0 {
+        return Done { code, length: 0 };
+    }
+    let overflow = list.overflow;
+    let time = list.overflow_time;
+    let from = (address / 64) as u32;
+    let found = list.put_records(from, n as u32, 126, reply, 32);
+    let count = carried(found);
+    put_header(reply, overflow, time, found, count);
+    Done {
+        code: 0,
+        length: 32 + 16 * count,
+    }
+}

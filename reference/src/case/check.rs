@@ -1,0 +1,104 @@
+//! `check`: the answers a case states against the lines a program printed.
+
+use super::answer::{answer, Answer};
+use super::encode::Item;
+use super::text::whole_number;
+use super::{pairs, Pair};
+
+/// The report of a check: a line for each stated answer and the totals.
+pub struct Report {
+    pub lines: Vec<String>,
+    pub passed: usize,
+    pub failed: usize,
+}
+
+/// Checks every stated answer of the case against the bench output.
+pub fn check(items: &[Item], output: &str) -> Report {
+    let (pairs, left) = pairs(items, output);
+    let mut report = Report {
+        lines: Vec::new(),
+        passed: 0,
+        failed: 0,
+    };
+    // The first record that begins in each case line.
+    let mut first: Vec<Option<&Pair>> = items.iter().map(|_| None).collect();
+    for pair in &pairs {
+        first[pair.place].get_or_insert(pair);
+    }
+    for (item, pair) in items.iter().zip(first) {
+        let Some(expected) = &item.line.expected else {
+            continue;
+        };
+        let came = pair.map_or(Answer::nothing(), came);
+        let number = item.line.line;
+        if meets(expected, &came) {
+            report.passed += 1;
+            report.lines.push(format!("pass {number}: {expected}"));
+        } else {
+            report.failed += 1;
+            let words = &item.line.words;
+            let came = asked_for(expected, &came);
+            report.lines.push(format!(
+                "fail {number}: {words}: expected {expected}; came {came}"
+            ));
+        }
+    }
+    if !left.is_empty() {
+        report.failed += 1;
+        report.lines.push(format!(
+            "fail: expected no line after the last answer; came {}",
+            left[0]
+        ));
+    }
+    report
+}
+
+fn came(pair: &Pair) -> Answer {
+    match pair.line {
+        Some(line) => answer(pair.record.as_ref(), line),
+        None => Answer::nothing(),
+    }
+}
+
+/// What came, with the whole reply only where the case asks for it.
+fn asked_for(expected: &str, came: &Answer) -> String {
+    let mut words = came.words();
+    for name in ["reply", "data"] {
+        if expected.contains(&format!("{name}=")) {
+            words.push_str(&format!(" {name}={}", came.field(name).unwrap_or("none")));
+        }
+    }
+    words
+}
+
+/// Whether every word of the expectation holds of the answer: a bare word is
+/// the status, `name=value` a field.
+pub fn meets(expected: &str, came: &Answer) -> bool {
+    expected
+        .split_whitespace()
+        .all(|word| match word.split_once('=') {
+            None => word == came.status,
+            Some((name, value)) => match came.field(name) {
+                None => false,
+                Some(own) if name == "reply" || name == "data" => same_bytes(value, own),
+                Some(own) => same_values(value, own),
+            },
+        })
+}
+
+/// Bytes in hex, where the case may write `HH*COUNT`.
+fn same_bytes(stated: &str, own: &str) -> bool {
+    let stated = super::encode::hex_groups(stated);
+    stated.is_ok() && stated == super::encode::hex_groups(own)
+}
+
+/// Lists joined by commas, number by number; other values as text.
+fn same_values(stated: &str, own: &str) -> bool {
+    let (stated, own): (Vec<&str>, Vec<&str>) =
+        (stated.split(',').collect(), own.split(',').collect());
+    let same = |(stated, own): (&&str, &&str)| match (whole_number(stated), whole_number(own)) {
+        (Some(stated), Some(own)) => stated == own,
+        _ => stated == own,
+    };
+    stated.len() == own.len() && stated.iter().zip(&own).all(same)
+}

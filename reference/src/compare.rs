@@ -1,0 +1,199 @@
+//! `compare`: generated streams through another program and through the model,
+//! line by line.
+
+use crate::bench;
+use crate::case::words::{hex_text, record_words};
+use crate::device::Config;
+use crate::generate::{profile_named, profile_of, Profile};
+use crate::stream::{Next, Reader};
+use std::io::{Read, Write};
+use std::process::{Child, Command, ExitStatus, Stdio};
+use std::sync::mpsc;
+use std::time::{Duration, Instant};
+
+/// The program that is compared with the model.
+pub enum Subject {
+    /// A child process: path and arguments.
+    Program(Vec<String>),
+    /// The model itself with another configuration (planted faults).
+    Model(Config),
+}
+
+impl Subject {
+    /// A program given as text: a path, or a path and arguments with blanks
+    /// between them.
+    pub fn program(text: &str) -> Subject {
+        if std::path::Path::new(text).exists() {
+            return Subject::Program(vec![text.to_string()]);
+        }
+        Subject::Program(text.split_whitespace().map(str::to_string).collect())
+    }
+
+    /// Its output for a stream, or what went wrong.
+    pub fn output(&self, stream: Vec<u8>, timeout: Duration) -> Result<Vec<u8>, String> {
+        match self {
+            Subject::Model(config) => Ok(bench::lines_of(&stream, *config)),
+            Subject::Program(words) => run_child(words, stream, timeout),
+        }
+    }
+}
+
+/// Runs a child with the stream on its standard input. Input is written by one
+/// thread and output read by another, so that neither side waits for the other
+/// with a full pipe; a child that does not end in time, whether or not it has
+/// closed its output, is ended by its handle. The threads end with the pipes.
+fn run_child(words: &[String], stream: Vec<u8>, timeout: Duration) -> Result<Vec<u8>, String> {
+    let (path, arguments) = words.split_first().ok_or("no program is named")?;
+    let mut child = Command::new(path)
+        .args(arguments)
+        .stdin(Stdio::piped())
+        .stdout(Stdio::piped())
+        .spawn()
+        .map_err(|error| format!("cannot run {path}: {error}"))?;
+    let mut input = child.stdin.take().ok_or("the child has no input")?;
+    let mut output = child.stdout.take().ok_or("the child has no output")?;
+    // A child may stop before it has read all, so a failed write is no error.
+    std::thread::spawn(move || drop(input.write_all(&stream)));
+    let (sender, receiver) = mpsc::channel();
+    std::thread::spawn(move || {
+        let mut bytes = Vec::new();
+        let result = output.read_to_end(&mut bytes).map(|_| bytes);
+        let _ = sender.send(result);
+    });
+    let begin = Instant::now();
+    let read = receiver.recv_timeout(timeout).ok();
+    let status = match &read {
+        Some(_) => end_of(&mut child, begin + timeout)?,
+        None => None,
+    };
+    let (Some(bytes), Some(status)) = (read, status) else {
+        let _ = child.kill();
+        let _ = child.wait();
+        return Err(format!("{path} did not end in {timeout:?}"));
+    };
+    let bytes = bytes.map_err(|error| error.to_string())?;
+    // Document 01 names no exit status, so any is taken but that of a panic; an
+    // end by a signal is no answer either.
+    if matches!(status.code(), None | Some(101)) {
+        return Err(format!("{path} stopped on an error: {status}"));
+    }
+    Ok(bytes)
+}
+
+/// The status with which the child ends up to `deadline`, if it ends.
+fn end_of(child: &mut Child, deadline: Instant) -> Result<Option<ExitStatus>, String> {
+    loop {
+        let status = child.try_wait().map_err(|error| error.to_string())?;
+        if status.is_some() || Instant::now() >= deadline {
+            return Ok(status);
+        }
+        std::thread::sleep(Duration::from_micros(50));
+    }
+}
+
+/// What to compare.
+pub struct Plan {
+    pub seeds: std::ops::Range<u64>,
+    pub profile: Option<String>,
+    pub timeout: Duration,
+}
+
+/// The streams of a plan: seed, profile and number of the stream.
+fn streams(plan: &Plan) -> Vec<(u64, &'static Profile, usize)> {
+    let mut all = Vec::new();
+    for seed in plan.seeds.clone() {
+        let named = plan.profile.as_deref().and_then(profile_named);
+        let profile = named.unwrap_or_else(|| profile_of(seed));
+        all.extend((0..profile.streams()).map(|part| (seed, profile, part)));
+    }
+    all
+}
+
+/// Runs a plan; `say` gets each difference. Returns streams passed and failed,
+/// and stops at the first difference if asked.
+pub fn run(
+    plan: &Plan,
+    subject: &Subject,
+    stop_at_first: bool,
+    say: &mut dyn FnMut(String),
+) -> (usize, usize) {
+    let (mut passed, mut failed) = (0, 0);
+    for (seed, profile, part) in streams(plan) {
+        let stream = profile.stream(seed, part, None);
+        let expected = bench::lines_of(&stream, Config::default());
+        let difference = match subject.output(stream.clone(), plan.timeout) {
+            Ok(came) if came == expected => None,
+            Ok(came) => Some(difference(&stream, &expected, &came)),
+            Err(error) => Some(format!("  {error}")),
+        };
+        let Some(difference) = difference else {
+            passed += 1;
+            continue;
+        };
+        failed += 1;
+        say(format!(
+            "seed {seed}, profile {}, stream {part}\n{difference}",
+            profile.name
+        ));
+        if stop_at_first {
+            break;
+        }
+    }
+    (passed, failed)
+}
+
+/// The first line that differs, with the record it answers.
+pub fn difference(stream: &[u8], expected: &[u8], came: &[u8]) -> String {
+    let (expected, came) = (split_lines(expected), split_lines(came));
+    let same = expected.iter().zip(&came).take_while(|(a, b)| a == b);
+    let number = same.count();
+    let shown = |lines: &[Vec<u8>]| match lines.get(number) {
+        Some(line) => String::from_utf8_lossy(line).trim_end().to_string(),
+        None => "no line".to_string(),
+    };
+    let mut reader = Reader::new(stream);
+    let mut record = "after the last record".to_string();
+    for at in 0..=number {
+        record = match reader.next_record() {
+            Ok(Next::Record(offset, record)) => format!(
+                "record {} at offset {offset}: {}",
+                at + 1,
+                record_words(&record)
+            ),
+            Ok(Next::Bad(offset)) => {
+                let from = offset as usize;
+                let rest = &stream[from..stream.len().min(from + 24)];
+                format!(
+                    "record {} at offset {offset}, bad: bytes {}",
+                    at + 1,
+                    hex_text(rest)
+                )
+            }
+            _ => break,
+        };
+    }
+    let (expected, came) = (shown(&expected), shown(&came));
+    let byte = reply_byte(&expected, &came);
+    format!("  {record}\n  expected: {expected}\n  came:     {came}{byte}")
+}
+
+/// Where two long replies differ first, since that is hard to see in hex.
+fn reply_byte(expected: &str, came: &str) -> String {
+    let reply = |line: &str| line.split(' ').nth(3).map(str::to_string);
+    let (Some(expected), Some(came)) = (reply(expected), reply(came)) else {
+        return String::new();
+    };
+    let same = expected
+        .bytes()
+        .zip(came.bytes())
+        .take_while(|(a, b)| a == b);
+    format!("\n  the replies differ first at byte {}", same.count() / 2)
+}
+
+/// The lines with their line ends, so that a missing one is a difference.
+fn split_lines(bytes: &[u8]) -> Vec<Vec<u8>> {
+    bytes
+        .split_inclusive(|byte| *byte == b'\n')
+        .map(<[u8]>::to_vec)
+        .collect()
+}

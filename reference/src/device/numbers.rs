@@ -1,0 +1,106 @@
+//! Sizes and return numbers of document 01 ("Numbers", "Return numbers"), and
+//! the little-endian helpers ("Sources and rank": all numbers little-endian).
+
+/// A line is 64 bytes.
+pub const LINE: u128 = 64;
+/// A unit is 256 MiB.
+pub const UNIT: u128 = 256 * 1024 * 1024;
+/// Volatile plus persistent units are 1 to this.
+pub const MOST_UNITS: u64 = 1023;
+/// Payload and reply are at most this long; a shorter reply buffer is refused.
+pub const MAILBOX: usize = 2048;
+/// Event logs 0 to 4.
+pub const LOGS: usize = 5;
+/// Bytes of an event record.
+pub const RECORD: usize = 128;
+/// Records a log has room for.
+pub const LOG_ROOM: usize = 8;
+/// Entries the poison list has room for.
+pub const POISON_ROOM: usize = 256;
+/// Records a Get Poison List reply has room for.
+pub const POISON_RECORDS: usize = 126;
+
+/// The twelve opcodes.
+pub mod opcode {
+    pub const GET_EVENT_RECORDS: u16 = 0x0100;
+    pub const CLEAR_EVENT_RECORDS: u16 = 0x0101;
+    pub const GET_POLICY: u16 = 0x0102;
+    pub const SET_POLICY: u16 = 0x0103;
+    pub const GET_TIMESTAMP: u16 = 0x0300;
+    pub const SET_TIMESTAMP: u16 = 0x0301;
+    pub const GET_SUPPORTED_LOGS: u16 = 0x0400;
+    pub const GET_LOG: u16 = 0x0401;
+    pub const IDENTIFY: u16 = 0x4000;
+    pub const GET_POISON_LIST: u16 = 0x4300;
+    pub const INJECT_POISON: u16 = 0x4301;
+    pub const CLEAR_POISON: u16 = 0x4302;
+    /// All of them, ascending.
+    pub const ALL: [u16; 12] = [
+        GET_EVENT_RECORDS,
+        CLEAR_EVENT_RECORDS,
+        GET_POLICY,
+        SET_POLICY,
+        GET_TIMESTAMP,
+        SET_TIMESTAMP,
+        GET_SUPPORTED_LOGS,
+        GET_LOG,
+        IDENTIFY,
+        GET_POISON_LIST,
+        INJECT_POISON,
+        CLEAR_POISON,
+    ];
+}
+
+/// The refusals of document 01's table "Return numbers". Success is not among
+/// them: a call answers `Ok` or one of these.
+#[derive(Clone, Copy, Debug, PartialEq, Eq)]
+pub enum Refusal {
+    InvalidInput,
+    Unsupported,
+    InvalidHandle,
+    InvalidPhysicalAddress,
+    InjectPoisonLimit,
+    InvalidPayloadLength,
+    InvalidLog,
+    ReplyBufferTooSmall,
+}
+
+impl Refusal {
+    /// The return number.
+    pub fn number(self) -> u16 {
+        match self {
+            Refusal::InvalidInput => 0x0002,
+            Refusal::Unsupported => 0x0003,
+            Refusal::InvalidHandle => 0x000e,
+            Refusal::InvalidPhysicalAddress => 0x000f,
+            Refusal::InjectPoisonLimit => 0x0010,
+            Refusal::InvalidPayloadLength => 0x0016,
+            Refusal::InvalidLog => 0x0017,
+            Refusal::ReplyBufferTooSmall => 0x0100,
+        }
+    }
+}
+
+/// The name of a return number as the case tool writes it.
+pub fn return_name(number: u64) -> &'static str {
+    match number {
+        0x0000 => "success",
+        0x0002 => "invalid-input",
+        0x0003 => "unsupported",
+        0x000e => "invalid-handle",
+        0x000f => "invalid-physical-address",
+        0x0010 => "inject-poison-limit",
+        0x0016 => "invalid-payload-length",
+        0x0017 => "invalid-log",
+        0x0100 => "reply-buffer-too-small",
+        _ => "number-not-in-document-01",
+    }
+}
+
+/// The little-endian number in up to 8 bytes.
+pub fn number(bytes: &[u8]) -> u64 {
+    bytes
+        .iter()
+        .rev()
+        .fold(0, |sum, byte| (sum << 8) | u64::from(*byte))
+}

@@ -1,0 +1,251 @@
+//! The stream under construction. It runs the model beside the stream, so that
+//! a profile can choose handles and lines by the state they will meet.
+
+use crate::bench::Bench;
+use crate::device::numbers::{opcode, RECORD};
+use crate::device::poison::Entry;
+use crate::device::{Config, Device};
+use crate::random::Random;
+use crate::stream::Record;
+
+/// A stream under construction.
+pub struct Builder {
+    pub random: Random,
+    bench: Bench,
+    out: Vec<u8>,
+    time: u64,
+    records: usize,
+    /// The records a looping profile makes; a given limit also ends the others.
+    target: usize,
+    limited: bool,
+}
+
+impl Builder {
+    /// An empty stream. The generator's model has no planted fault.
+    pub fn new(seed: u64, limit: Option<usize>) -> Self {
+        Builder {
+            random: Random::new(seed),
+            bench: Bench::new(Config::default()),
+            out: Vec::new(),
+            time: 0,
+            records: 0,
+            target: limit.unwrap_or(600),
+            limited: limit.is_some(),
+        }
+    }
+
+    /// The stream's bytes.
+    pub fn finish(self) -> Vec<u8> {
+        self.out
+    }
+
+    /// Sets the number of records of a looping profile, unless one was given.
+    pub fn set_target(&mut self, records: usize) {
+        if !self.limited {
+            self.target = records;
+        }
+    }
+
+    /// Whether a looping profile goes on.
+    pub fn more(&self) -> bool {
+        self.records < self.target
+    }
+
+    /// The model's device after the records so far.
+    pub fn device(&self) -> &Device {
+        self.bench.device()
+    }
+
+    /// Appends a record and runs it. Past a given limit nothing is appended.
+    pub fn push(&mut self, record: Record) {
+        if self.limited && !self.more() {
+            return;
+        }
+        record.encode(&mut self.out);
+        self.bench.step(&record);
+        self.records += 1;
+    }
+
+    /// Appends bytes that are no whole record; nothing may follow them.
+    pub fn push_bytes(&mut self, bytes: &[u8]) {
+        self.out.extend(bytes);
+    }
+
+    /// The caller's time for the next record: it mostly goes on, sometimes
+    /// stands still and sometimes goes back.
+    pub fn tick(&mut self) -> u64 {
+        self.time = match self.random.below(24) {
+            0 => self.random.bits(),
+            1 => self.time.saturating_sub(self.random.below(1000)),
+            2..=5 => self.time,
+            _ => self.time.saturating_add(self.random.below(1000)),
+        };
+        self.time
+    }
+
+    /// Sets the caller's time.
+    pub fn set_time(&mut self, time: u64) {
+        self.time = time;
+    }
+
+    pub fn new_device(&mut self, volatile: u16, persistent: u16) {
+        self.push(Record::New {
+            volatile,
+            persistent,
+        });
+    }
+
+    /// A device of a small or large size.
+    pub fn any_device(&mut self) {
+        let total = self.random.pick(&[1, 1, 2, 3, 511, 1022, 1023]);
+        let volatile = self.random.below(u64::from(total) + 1) as u16;
+        self.new_device(volatile, total - volatile);
+    }
+
+    pub fn command(&mut self, opcode: u16, payload: Vec<u8>) {
+        let time = self.tick();
+        self.command_at(time, opcode, payload);
+    }
+
+    pub fn command_at(&mut self, time: u64, opcode: u16, payload: Vec<u8>) {
+        self.push(Record::Command {
+            time,
+            opcode,
+            payload,
+        });
+    }
+
+    /// An event report with random bytes, those the device sets included.
+    pub fn event(&mut self, log: u8) {
+        let time = self.tick();
+        self.event_at(time, log);
+    }
+
+    pub fn event_at(&mut self, time: u64, log: u8) {
+        let record = self.random.bytes(RECORD);
+        self.push(Record::Event { time, log, record });
+    }
+
+    /// Clear Event Records with these handles, well formed.
+    pub fn clear_events(&mut self, log: u8, flags: u8, handles: &[u16]) {
+        let mut payload = vec![log, flags, handles.len() as u8];
+        let reserved = if self.random.one_in(4) { 3 } else { 0 };
+        payload.extend(self.random.bytes(reserved));
+        payload.resize(6, 0);
+        for handle in handles {
+            payload.extend(handle.to_le_bytes());
+        }
+        self.command(opcode::CLEAR_EVENT_RECORDS, payload);
+    }
+
+    pub fn get_events(&mut self, log: u8) {
+        self.command(opcode::GET_EVENT_RECORDS, vec![log]);
+    }
+
+    pub fn set_timestamp(&mut self, value: u64) {
+        self.command(opcode::SET_TIMESTAMP, value.to_le_bytes().to_vec());
+    }
+
+    pub fn media(&mut self, address: u64, lines: u32, kind: u8) {
+        let time = self.tick();
+        self.push(Record::Media {
+            time,
+            address,
+            lines,
+            kind,
+        });
+    }
+
+    pub fn line(&mut self, address: u64) {
+        self.push(Record::Line { address });
+    }
+
+    pub fn inject(&mut self, address: u64) {
+        self.command(opcode::INJECT_POISON, address.to_le_bytes().to_vec());
+    }
+
+    pub fn clear(&mut self, address: u64) {
+        let mut payload = address.to_le_bytes().to_vec();
+        payload.extend(self.random.bytes(64));
+        self.command(opcode::CLEAR_POISON, payload);
+    }
+
+    pub fn get_poison(&mut self, address: u64, lines: u64) {
+        let mut payload = address.to_le_bytes().to_vec();
+        payload.extend(lines.to_le_bytes());
+        self.command(opcode::GET_POISON_LIST, payload);
+    }
+
+    /// The device's lines.
+    pub fn device_lines(&self) -> u64 {
+        self.device().lines() as u64
+    }
+
+    /// The entries held.
+    pub fn entries(&self) -> Vec<Entry> {
+        self.device().poison_list().entries().collect()
+    }
+
+    /// Makes events, policy and clock visible.
+    pub fn show_events(&mut self) {
+        for log in 0..5 {
+            self.get_events(log);
+        }
+        self.command(opcode::GET_POLICY, vec![]);
+        self.command(opcode::GET_TIMESTAMP, vec![]);
+    }
+
+    /// Makes the whole poison list visible: every entry, and lines at edges.
+    pub fn show_poison(&mut self) {
+        let lines = self.device_lines();
+        self.get_poison(0, lines);
+        let entries = self.entries();
+        for first in [126, 252] {
+            if let Some(entry) = entries.get(first) {
+                let start = entry.start as u64;
+                self.get_poison(start * 64, lines - start);
+            }
+        }
+        for _ in 0..3 {
+            let line = self.edge_line();
+            self.line(line * 64);
+        }
+        // Flag and time are those of the list, also where the range is empty.
+        let line = self.edge_line();
+        let few = self.random.below(3).min(lines - line);
+        self.get_poison(line * 64, few);
+        self.get_poison(lines * 64, 0);
+    }
+
+    /// Makes everything visible.
+    pub fn show(&mut self) {
+        self.show_events();
+        self.show_poison();
+    }
+
+    /// A line at or beside an edge of an entry, inside the device.
+    pub fn edge_line(&mut self) -> u64 {
+        let last = self.device_lines() - 1;
+        let entries = self.entries();
+        if entries.is_empty() {
+            return self.random.pick(&[0, 1, last / 2, last]);
+        }
+        let entry = self.random.pick(&entries);
+        let (start, end) = (entry.start as u64, (entry.start + entry.lines) as u64);
+        let line = match self.random.below(7) {
+            0 => start.saturating_sub(1),
+            1 => start,
+            2 => start + 1,
+            3 => self.random.between(start, end - 1),
+            4 => end - 1,
+            5 => end,
+            _ => end.saturating_sub(2),
+        };
+        line.min(last)
+    }
+
+    /// A type that media report takes.
+    pub fn media_type(&mut self) -> u8 {
+        self.random.pick(&[0, 1, 2, 7])
+    }
+}

@@ -1,0 +1,382 @@
+//! Profiles about lengths, opcodes, policy, Get Log, devices and bad streams.
+
+use super::builder::Builder;
+use super::events::one_clear;
+use crate::device::numbers::opcode;
+use crate::device::EFFECTS_IDENTIFIER;
+use crate::stream::Record;
+
+/// A payload that is right for the opcode in most cases.
+pub fn plausible_payload(b: &mut Builder, code: u16) -> Vec<u8> {
+    let line = b.edge_line();
+    match code {
+        opcode::GET_EVENT_RECORDS => vec![b.random.below(6) as u8],
+        opcode::CLEAR_EVENT_RECORDS => {
+            let log = b.random.below(5) as u8;
+            let held = b.device().log(log.into()).handles();
+            let mut payload = vec![log, 0, held.len() as u8, 0, 0, 0];
+            payload.extend(held.iter().flat_map(|handle| handle.to_le_bytes()));
+            payload
+        }
+        opcode::SET_POLICY => {
+            let length = b.random.pick(&[4, 5]);
+            b.random.bytes(length)
+        }
+        opcode::SET_TIMESTAMP => b.random.bytes(8),
+        opcode::GET_LOG => get_log_payload(0, 16),
+        opcode::GET_POISON_LIST => {
+            let mut payload = (line * 64).to_le_bytes().to_vec();
+            payload.extend(b.random.below(300).to_le_bytes());
+            payload
+        }
+        opcode::INJECT_POISON => (line * 64).to_le_bytes().to_vec(),
+        opcode::CLEAR_POISON => {
+            let mut payload = (line * 64).to_le_bytes().to_vec();
+            payload.extend([0; 64]);
+            payload
+        }
+        _ => vec![],
+    }
+}
+
+/// Every opcode with every length of 0 to 80 and some great ones.
+pub fn wrong_lengths(b: &mut Builder) {
+    b.any_device();
+    for log in 0..5 {
+        b.event(log);
+    }
+    let lengths = (0..=80).chain([255, 256, 257, 516, 517, 1024, 2046, 2047, 2048]);
+    for code in opcode::ALL {
+        for length in lengths.clone() {
+            let mut payload = plausible_payload(b, code);
+            payload.resize(length, 0);
+            b.command(code, payload);
+        }
+        b.show();
+    }
+    // Clear Event Records: each length with each small count.
+    for length in 6..=24 {
+        for count in 0..=9 {
+            let log = b.random.below(5) as u8;
+            let mut payload = vec![log, 0, count, 0, 0, 0];
+            let held = b.device().log(log.into()).handles();
+            payload.extend(held.iter().flat_map(|handle| handle.to_le_bytes()));
+            payload.resize(length, 0);
+            b.command(opcode::CLEAR_EVENT_RECORDS, payload);
+            b.event(log);
+        }
+    }
+    b.show();
+    // A length of 2,049 ends the stream as bad.
+    b.push_bytes(b"CM\0\0\0\0\0\0\0\0\0\x03\x01\x08");
+    b.push_bytes(&[0; 2049]);
+}
+
+/// Every opcode of 16 bits once, those near the commands with payloads too.
+pub fn unknown_opcodes(b: &mut Builder) {
+    b.any_device();
+    for log in 0..5 {
+        b.event(log);
+    }
+    for code in opcode::ALL {
+        let near = [
+            code.wrapping_sub(1),
+            code + 1,
+            code.swap_bytes(),
+            code ^ 0x8000,
+            code ^ 0x0080,
+            code & 0xff,
+            code & 0xff00,
+        ];
+        for near in near {
+            let payload = plausible_payload(b, code);
+            b.command(near, payload);
+            let length = b.random.pick(&[0, 1, 8, 16, 24, 72, 2048]);
+            b.command(near, vec![0; length]);
+        }
+    }
+    b.show();
+    for code in 0..=u16::MAX {
+        b.command(code, vec![]);
+    }
+    b.show();
+}
+
+/// Policy bytes of every mode, four and five of them.
+pub fn policy(b: &mut Builder) {
+    b.any_device();
+    b.command(opcode::GET_POLICY, vec![]);
+    while b.more() {
+        let length = b.random.pick(&[4, 5, 5, 4, 3, 6, 0]);
+        let mut payload = b.random.bytes(length);
+        let keep = b.random.pick(&[0x03, 0xff, 0xf3, 0x07]);
+        for byte in &mut payload {
+            *byte &= keep;
+            if b.random.one_in(2) {
+                *byte = (*byte & 0xfc) | 1;
+            }
+        }
+        b.command(opcode::SET_POLICY, payload);
+        b.command(opcode::GET_POLICY, vec![]);
+    }
+    b.show();
+}
+
+fn get_log_payload(offset: u32, length: u32) -> Vec<u8> {
+    let mut payload = EFFECTS_IDENTIFIER.to_vec();
+    payload.extend(offset.to_le_bytes());
+    payload.extend(length.to_le_bytes());
+    payload
+}
+
+/// Get Log with offsets and lengths at every edge, and wrong identifiers.
+pub fn get_log(b: &mut Builder) {
+    b.any_device();
+    b.command(opcode::GET_SUPPORTED_LOGS, vec![]);
+    let mut edges: Vec<u32> = (0..=52).collect();
+    for centre in [1u32 << 11, 1 << 12, 1 << 16, 1 << 31] {
+        edges.extend([centre - 1, centre, centre + 1]);
+    }
+    edges.extend((0..=52).map(|below| u32::MAX - below));
+    for at in 0..=52u32 {
+        // The lengths around the one that ends at the log's end.
+        for length in [48u32.saturating_sub(at), 49u32.saturating_sub(at), 0, 1] {
+            b.command(opcode::GET_LOG, get_log_payload(at, length));
+        }
+        // An offset and a length whose sum wraps in 32 bits.
+        let wrapped = get_log_payload(u32::MAX - at, at + 48);
+        b.command(opcode::GET_LOG, wrapped);
+    }
+    for at in 0..16 {
+        for length in [0, 48, 49, 2049] {
+            let mut payload = get_log_payload(0, length);
+            payload[at] ^= b.random.pick(&[1, 0x80, 0xff]);
+            b.command(opcode::GET_LOG, payload);
+        }
+    }
+    while b.more() {
+        let (offset, length) = (b.random.pick(&edges), b.random.pick(&edges));
+        b.command(opcode::GET_LOG, get_log_payload(offset, length));
+    }
+    b.show();
+}
+
+/// Unit counts: one stream for each, since a stream makes one device.
+const UNITS: &[(u16, u16)] = &[
+    (1, 0),
+    (0, 1),
+    (1, 1),
+    (1023, 0),
+    (0, 1023),
+    (511, 512),
+    (1022, 1),
+    (0, 0),
+    (1024, 0),
+    (0, 1024),
+    (1023, 1),
+    (512, 512),
+    (65535, 0),
+    (0, 65535),
+    (65535, 65535),
+    (65535, 1),
+    (65535, 2),
+    (32768, 32768),
+    (32769, 32768),
+    (256, 0),
+    (0, 256),
+    (255, 768),
+];
+
+pub const DEVICE_STREAMS: usize = 22;
+
+/// Devices of every edge size, refused ones included.
+pub fn devices(b: &mut Builder, part: usize) {
+    let (volatile, persistent) = UNITS[part % UNITS.len()];
+    b.new_device(volatile, persistent);
+    b.command(opcode::IDENTIFY, vec![]);
+    b.command(opcode::GET_SUPPORTED_LOGS, vec![]);
+    let total = u64::from(volatile) + u64::from(persistent);
+    if (1..=1023).contains(&total) {
+        let lines = b.device_lines();
+        for line in [0, lines - 1, lines, lines + 1, lines * 2] {
+            b.line(line * 64);
+            b.inject(line * 64);
+        }
+    }
+    b.show();
+}
+
+/// Kinds of bad streams made by [`malformed`]; the cut places come after them.
+const BAD_KINDS: usize = 32;
+/// Every place at which one of each record may be cut.
+const CUTS: usize = 6 + 14 + 22 + 139 + 23 + 10;
+pub const MALFORMED_STREAMS: usize = BAD_KINDS + CUTS;
+
+fn one_of_each(b: &mut Builder) -> [Record; 6] {
+    [
+        Record::New {
+            volatile: 1,
+            persistent: 0,
+        },
+        Record::Command {
+            time: b.random.bits(),
+            opcode: opcode::GET_TIMESTAMP,
+            payload: vec![],
+        },
+        Record::Command {
+            time: b.random.bits(),
+            opcode: opcode::SET_TIMESTAMP,
+            payload: b.random.bytes(8),
+        },
+        Record::Event {
+            time: b.random.bits(),
+            log: 0,
+            record: b.random.bytes(128),
+        },
+        Record::Media {
+            time: b.random.bits(),
+            address: 64,
+            lines: 1,
+            kind: 0,
+        },
+        Record::Line { address: 64 },
+    ]
+}
+
+/// One bad stream for each part: unknown marks, a wrong first mark, a later
+/// NW, a refused NW, a length over 2,048, and a cut at every place.
+pub fn malformed(b: &mut Builder, part: usize) {
+    let records = one_of_each(b);
+    if part >= BAD_KINDS {
+        let mut place = (part - BAD_KINDS) % CUTS;
+        for (i, record) in records.iter().enumerate() {
+            let bytes = record.bytes();
+            if place < bytes.len() {
+                let cut = &bytes[..place];
+                if i > 0 {
+                    some_records(b);
+                }
+                b.push_bytes(cut);
+                return;
+            }
+            place -= bytes.len();
+        }
+    }
+    let big = [2049u16, 4096, 32768, 65535];
+    let marks: [&[u8]; 8] = [b"XX", b"nw", b"cm", b"WN", b"MC", b"\0\0", b"N ", b"\r\n"];
+    match part {
+        0 => {}
+        1 => b.push_bytes(b"N"),
+        2 => b.push_bytes(b"X"),
+        // A first mark other than NW, the record whole.
+        3..=7 => b.push_bytes(&records[part - 2].bytes()),
+        8..=15 => {
+            if part % 2 == 0 {
+                some_records(b);
+            }
+            b.push_bytes(marks[part - 8]);
+            b.push_bytes(&[0; 40]);
+        }
+        // A later NW: at once, later, cut, refused by its numbers.
+        16 => {
+            b.new_device(1, 0);
+            b.push_bytes(b"NW\x01\0\0\0");
+        }
+        17 => {
+            some_records(b);
+            b.push_bytes(b"NW\x01\0\0\0LT\0\0\0\0\0\0\0\0");
+        }
+        18 => {
+            some_records(b);
+            b.push_bytes(b"NW");
+        }
+        19 => {
+            some_records(b);
+            b.push_bytes(b"NW\0\0\0\0");
+        }
+        // A refused NW with records after it.
+        20..=23 => {
+            let units = [(0, 0), (1024, 0), (65535, 65535), (1023, 1)];
+            let (volatile, persistent) = units[part - 20];
+            b.push_bytes(
+                &Record::New {
+                    volatile,
+                    persistent,
+                }
+                .bytes(),
+            );
+            b.push_bytes(&records[1].bytes());
+            b.push_bytes(b"XX");
+        }
+        // A CM length over 2,048, with and without the bytes.
+        24..=31 => {
+            some_records(b);
+            let length = big[(part - 24) / 2];
+            let mut bytes = records[1].bytes();
+            bytes[12..14].copy_from_slice(&length.to_le_bytes());
+            if part % 2 == 0 {
+                bytes.resize(14 + usize::from(length), 0);
+            }
+            b.push_bytes(&bytes);
+            b.push_bytes(&records[1].bytes());
+        }
+        _ => b.push_bytes(b"NW"),
+    }
+}
+
+/// NW and a few records before the bad place, so that its offset varies.
+fn some_records(b: &mut Builder) {
+    b.new_device(1, 0);
+    for _ in 0..b.random.below(4) {
+        let code = b.random.pick(&opcode::ALL);
+        let payload = plausible_payload(b, code);
+        b.command(code, payload);
+        b.event(0);
+    }
+}
+
+/// One step of the commands other than the poison commands.
+pub fn one_step(b: &mut Builder) {
+    let log = b.random.below(5) as u8;
+    match b.random.below(12) {
+        0..=3 => b.event(log),
+        4 => {
+            for _ in 0..b.random.between(1, 12) {
+                b.event(log);
+            }
+        }
+        5 | 6 => one_clear(b, log),
+        7 => b.clear_events(log, 1, &[]),
+        8 => {
+            let value = b.random.bits() >> b.random.below(64);
+            b.set_timestamp(value);
+        }
+        9 => {
+            let length = b.random.pick(&[4, 5]);
+            let payload = b.random.bytes(length);
+            b.command(opcode::SET_POLICY, payload);
+        }
+        10 => {
+            let code = b.random.pick(&opcode::ALL);
+            let payload = plausible_payload(b, code);
+            b.command(code, payload);
+        }
+        _ => {
+            let code = b.random.bits() as u16;
+            let length = b.random.below(80) as usize;
+            b.command(code, vec![0; length]);
+        }
+    }
+}
+
+/// Everything but the poison commands, mixed.
+pub fn commands_mixed(b: &mut Builder) {
+    b.any_device();
+    while b.more() {
+        one_step(b);
+        if b.random.one_in(10) {
+            b.show_events();
+        }
+    }
+    b.show();
+}

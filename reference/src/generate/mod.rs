@@ -1,0 +1,225 @@
+//! Adversarial streams, deterministic by seed. A profile says what a stream is
+//! about; a seed chooses a profile unless one is named.
+
+pub mod builder;
+pub mod commands;
+pub mod events;
+pub mod poison;
+
+use builder::Builder;
+
+/// How a profile makes its streams.
+enum Make {
+    /// One stream a seed.
+    One(fn(&mut Builder)),
+    /// Several small streams a seed, by number.
+    Several(usize, fn(&mut Builder, usize)),
+}
+
+/// A kind of stream.
+pub struct Profile {
+    pub name: &'static str,
+    pub what: &'static str,
+    /// It makes streams of some 10 MB, so that few seeds choose it.
+    pub large: bool,
+    make: Make,
+}
+
+impl Profile {
+    /// How many streams a seed has.
+    pub fn streams(&self) -> usize {
+        match self.make {
+            Make::One(_) => 1,
+            Make::Several(streams, _) => streams,
+        }
+    }
+
+    /// Stream number `part` of a seed.
+    pub fn stream(&self, seed: u64, part: usize, records: Option<usize>) -> Vec<u8> {
+        let mut builder = Builder::new(seed, records);
+        match self.make {
+            Make::One(make) => make(&mut builder),
+            Make::Several(_, make) => make(&mut builder, part),
+        }
+        builder.finish()
+    }
+}
+
+const fn one(name: &'static str, make: fn(&mut Builder), what: &'static str) -> Profile {
+    Profile {
+        name,
+        what,
+        large: false,
+        make: Make::One(make),
+    }
+}
+
+const fn large(name: &'static str, make: fn(&mut Builder), what: &'static str) -> Profile {
+    Profile {
+        large: true,
+        ..one(name, make, what)
+    }
+}
+
+const fn several(
+    name: &'static str,
+    streams: usize,
+    make: fn(&mut Builder, usize),
+    what: &'static str,
+) -> Profile {
+    Profile {
+        name,
+        what,
+        large: false,
+        make: Make::Several(streams, make),
+    }
+}
+
+/// Every profile.
+pub const PROFILES: &[Profile] = &[
+    one(
+        "full-logs",
+        events::full_logs,
+        "logs filled to seven, eight and past it; clears of the oldest",
+    ),
+    one(
+        "overflow",
+        events::overflow,
+        "overflow counts and times, ended and begun again",
+    ),
+    large(
+        "overflow-count-limit",
+        events::overflow_count_limit,
+        "an overflow count at 65,535 and past it (9 MB)",
+    ),
+    one(
+        "wrong-handles",
+        events::wrong_handles,
+        "wrong, surplus, swapped and foreign handles",
+    ),
+    large(
+        "handles-come-round",
+        events::handles_come_round,
+        "handles past 65,535 (9 MB)",
+    ),
+    one(
+        "clear-all",
+        events::clear_all,
+        "Clear All with and without overflow, with n nonzero",
+    ),
+    one(
+        "clock",
+        events::clock,
+        "clocks that go back and times that saturate",
+    ),
+    one(
+        "wrong-lengths",
+        commands::wrong_lengths,
+        "every length of 0 to 80 and some great ones for every opcode",
+    ),
+    one(
+        "unknown-opcodes",
+        commands::unknown_opcodes,
+        "every opcode of 16 bits, and payloads at those near the commands",
+    ),
+    one(
+        "policy",
+        commands::policy,
+        "policy bytes of every mode, four and five of them",
+    ),
+    one(
+        "get-log",
+        commands::get_log,
+        "Get Log offsets, lengths and identifiers at every edge",
+    ),
+    several(
+        "devices",
+        commands::DEVICE_STREAMS,
+        commands::devices,
+        "unit counts at every edge, refused ones included (22 streams)",
+    ),
+    several(
+        "malformed",
+        commands::MALFORMED_STREAMS,
+        commands::malformed,
+        "bad streams of every kind, a cut at every place (246 streams)",
+    ),
+    one(
+        "commands-mixed",
+        commands::commands_mixed,
+        "all commands but the poison commands, mixed",
+    ),
+    one(
+        "poison-full-list",
+        poison::full_list,
+        "lists driven to 256 entries and past it",
+    ),
+    one(
+        "poison-clear-parts",
+        poison::clear_parts,
+        "clears at the first, middle and last line of entries",
+    ),
+    one(
+        "poison-reports",
+        poison::reports,
+        "reports that contain, equal, touch and straddle entries",
+    ),
+    one(
+        "poison-list-ranges",
+        poison::list_ranges,
+        "ranges that share a line with 125, 126, 127 and 256 entries",
+    ),
+    one(
+        "poison-range-edges",
+        poison::range_edges,
+        "ranges of 0 lines, at the device's end and inside entries",
+    ),
+    one(
+        "poison-addresses",
+        poison::addresses,
+        "addresses near 2^64, unaligned and outside",
+    ),
+    one(
+        "poison-line-counts",
+        poison::line_counts,
+        "line counts near 2^32, 2^58 and 2^64",
+    ),
+    one(
+        "poison-far-end",
+        poison::far_end,
+        "a device of 1,023 units at its far end",
+    ),
+    one(
+        "poison-overflow-time",
+        poison::overflow_time,
+        "drops at several device times",
+    ),
+    one(
+        "poison-mixed",
+        poison::poison_mixed,
+        "all poison calls mixed",
+    ),
+    one("mixed", poison::mixed, "everything together"),
+];
+
+/// Seeds `compare` runs where none are given: two rounds of [`SEED_ROUND`].
+pub const DEFAULT_SEEDS: std::ops::Range<u64> = 0..2 * SEED_ROUND;
+/// Each large profile is chosen by one seed of a round.
+const SEED_ROUND: u64 = 100;
+
+/// The profile of this name.
+pub fn profile_named(name: &str) -> Option<&'static Profile> {
+    PROFILES.iter().find(|profile| profile.name == name)
+}
+
+/// The profile that a seed chooses.
+pub fn profile_of(seed: u64) -> &'static Profile {
+    let (large, small): (Vec<_>, Vec<_>) = PROFILES.iter().partition(|profile| profile.large);
+    // The last seeds of a round choose the large profiles.
+    let (round, place) = (seed / SEED_ROUND, seed % SEED_ROUND);
+    let smalls = SEED_ROUND - large.len() as u64;
+    if place >= smalls {
+        return large[(place - smalls) as usize];
+    }
+    small[((round * smalls + place) % small.len() as u64) as usize]
+}

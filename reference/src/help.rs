@@ -1,0 +1,119 @@
+//! The help pages.
+
+pub const GENERAL: &str = "\
+The independent second program, written from document 01 alone.
+
+  reference bench       the bench protocol: records in, a line for each out
+  reference generate    an adversarial stream by seed
+  reference profiles    the kinds of generated streams
+  reference compare     generated streams through another program and the model
+  reference faults      the planted faults of the model
+  reference encode      case text to bench records
+  reference decode      bench records to case text
+  reference explain     a bench output in words
+  reference check       the stated answers of a case against a bench output
+
+Each subcommand has --help. The case text is described in CASES.md.
+";
+
+const PAGES: &[(&str, &str)] = &[
+    (
+        "bench",
+        "\
+reference bench [--fault NAME] < STREAM
+
+Reads bench records from standard input and prints a line for each, as document
+01 \"Bench program\" says. Exit status 0, after BAD and a refused NW too.
+
+  --fault NAME  with a planted fault of `reference faults`
+",
+    ),
+    (
+        "generate",
+        "\
+reference generate --seed N [--profile P] [--stream K] [--records N] > STREAM
+
+Writes the stream of a seed. The seed chooses the profile unless one is named.
+
+  --profile P   a profile of `reference profiles`
+  --stream K    stream number K, from 0, of a profile with several streams a seed
+  --records N   N records where the profile is a loop, at most N elsewhere; a bad
+                rest of the stream is not counted
+",
+    ),
+    ("profiles", "reference profiles\n\nLists the profiles.\n"),
+    (
+        "encode",
+        "\
+reference encode [CASEFILE] > STREAM
+
+Turns case text (a file or standard input) into bench records. An error gives
+exit status 1 and FILE:LINE: what was expected.
+",
+    ),
+    (
+        "decode",
+        "\
+reference decode < STREAM
+
+Prints the case text of a stream; a bad rest is one `bytes` line.
+",
+    ),
+    (
+        "explain",
+        "\
+reference explain CASEFILE [--program PATH] [--timeout SECONDS] [< OUTPUT]
+
+Prints in words what a bench answered to each record of the case: its output on
+standard input, or that of PATH run on the encoded case.
+
+  --program PATH     a path, or a path and arguments with blanks between them
+  --timeout SECONDS  for PATH (60)
+",
+    ),
+    (
+        "check",
+        "\
+reference check CASEFILE [--program PATH] [--timeout SECONDS] [< OUTPUT]
+
+Says pass or fail for each answer that the case states after `=>`; the bench
+output is read from standard input, or from PATH run on the encoded case.
+The last line is `N passed, M failed`; exit status 1 if M is not 0.
+
+  --program PATH     a path, or a path and arguments with blanks between them
+  --timeout SECONDS  for PATH (60)
+",
+    ),
+    (
+        "compare",
+        "\
+reference compare --program PATH [--seeds A..B] [--profile P] [--all]
+                  [--timeout SECONDS]
+reference compare --fault NAME|all [--seeds A..B] [--profile P]
+
+Runs the streams of the seeds through PATH and through the model and compares
+the lines. The last line is `N passed, M failed`, counting streams; exit status 1
+if M is not 0.
+
+With --fault the model with that planted fault takes PATH's place; N counts the
+faults that the seeds find and M those that they do not.
+
+  --program PATH     a path, or a path and arguments with blanks between them
+  --seeds A..B       the seeds from A to B - 1 (0..200), or one seed: --seeds A
+  --profile P        this profile for all seeds, not the one that a seed chooses
+  --all              prints the first difference of every stream, not of one
+  --timeout SECONDS  for each stream (60)
+  --fault NAME       a planted fault of `reference faults`, or all of them
+",
+    ),
+    (
+        "faults",
+        "reference faults\n\nLists the planted faults for --fault.\n",
+    ),
+];
+
+/// The page of a subcommand.
+pub fn page(name: &str) -> Option<&'static str> {
+    let found = PAGES.iter().find(|(known, _)| *known == name);
+    found.map(|(_, page)| *page)
+}
