@@ -5,9 +5,12 @@ use poison::line_test::LineTest;
 ghost use mathlib.Core.Path.{_≡_};
 ghost use Prim.Native.Nat.{_+_, _≤_};
 ghost use lib.ListN.{length};
+ghost use Rattle.poison.specs.LineTest.{answer-number, answer-type};
 
 // The number of a line test's answer.
-pub fn answer_number(answer: LineTest) -> u64 {
+pub(crate) fn answer_number(answer: LineTest) -> u64
+    ensures { λ r. ⌜ r ≡ answer-number answer ⌝ }
+{
     match answer {
         LineTest::Clean => 0,
         LineTest::Damaged(_) => 1,
@@ -16,7 +19,9 @@ pub fn answer_number(answer: LineTest) -> u64 {
 }
 
 // The type that goes with a line test's answer: 0 if not damaged.
-pub fn answer_kind(answer: LineTest) -> u64 {
+pub(crate) fn answer_kind(answer: LineTest) -> u64
+    ensures { λ r. ⌜ r ≡ answer-type answer ⌝ }
+{
     match answer {
         LineTest::Clean => 0,
         LineTest::Damaged(kind) => kind as u64,
@@ -25,7 +30,7 @@ pub fn answer_kind(answer: LineTest) -> u64 {
 }
 
 // CM: the return number, the length of the reply, and its bytes, if there are any. (A refused command has a reply of length 0.)
-pub fn put_command(out: &mut [u8], used: usize, code: u16, reply: &[u8], n: usize) -> usize
+pub(crate) fn put_command(out: &mut [u8], used: usize, code: u16, reply: &[u8], n: usize) -> usize
     requires { ⌜ (used + 4200 ≤ 65536) × (length (now out) ≡ 65536) × (n ≤ length (now reply)) × (length (now reply) ≡ 2048) ⌝ }
     ensures { λ r. ⌜ r ≤ 65536 ⌝ }
 {
@@ -39,7 +44,7 @@ pub fn put_command(out: &mut [u8], used: usize, code: u16, reply: &[u8], n: usiz
 }
 
 // EV: the return number; if that is 0, then 1 for stored or 0 for not.
-pub fn put_event(out: &mut [u8], used: usize, code: u16, stored: bool) -> usize
+pub(crate) fn put_event(out: &mut [u8], used: usize, code: u16, stored: bool) -> usize
     requires { ⌜ (used + 4200 ≤ 65536) × (length (now out) ≡ 65536) ⌝ }
     ensures { λ r. ⌜ r ≤ 65536 ⌝ }
 {
@@ -52,7 +57,7 @@ pub fn put_event(out: &mut [u8], used: usize, code: u16, stored: bool) -> usize
 }
 
 // MD and LT: the mark, the return number; if that is 0, then two numbers.
-pub fn put_pair(
+pub(crate) fn put_pair(
     out: &mut [u8],
     used: usize,
     first: u8,

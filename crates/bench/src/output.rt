@@ -4,7 +4,7 @@ ghost use Prim.Native.Nat.{_+_, _*_, _≤_, _<_};
 ghost use lib.ListN.{length};
 
 // A space and a number in decimal.
-pub fn put_number(out: &mut [u8], at: usize, n: u64) -> usize
+pub(crate) fn put_number(out: &mut [u8], at: usize, n: u64) -> usize
     requires { ⌜ at + 21 ≤ length (now out) ⌝ }
     ensures { λ r. ⌜ r ≤ at + 21 ⌝ }
 {
@@ -23,7 +23,7 @@ fn digit(n: u8) -> u8
 }
 
 // A space and the first n bytes in hexadecimal.
-pub fn put_bytes(out: &mut [u8], at: usize, bytes: &[u8], n: usize) -> usize
+pub(crate) fn put_bytes(out: &mut [u8], at: usize, bytes: &[u8], n: usize) -> usize
     requires { ⌜ (n ≤ length (now bytes)) × (at + 1 + 2 * n ≤ length (now out)) ⌝ }
     ensures { λ r. ⌜ r ≡ at + 1 + 2 * n ⌝ }
 {
@@ -40,7 +40,7 @@ pub fn put_bytes(out: &mut [u8], at: usize, bytes: &[u8], n: usize) -> usize
 }
 
 // A line's start: the mark's two letters, a space and the return number.
-pub fn begin_line(out: &mut [u8], at: usize, first: u8, second: u8, code: u16) -> usize
+pub(crate) fn begin_line(out: &mut [u8], at: usize, first: u8, second: u8, code: u16) -> usize
     requires { ⌜ at + 23 ≤ length (now out) ⌝ }
     ensures { λ r. ⌜ r ≤ at + 23 ⌝ }
 {
@@ -49,7 +49,7 @@ pub fn begin_line(out: &mut [u8], at: usize, first: u8, second: u8, code: u16) -
     put_number(out, at + 2, code as u64)
 }
 
-pub fn end_line(out: &mut [u8], at: usize) -> usize
+pub(crate) fn end_line(out: &mut [u8], at: usize) -> usize
     requires { ⌜ at < length (now out) ⌝ }
     ensures { λ r. ⌜ r ≡ at + 1 ⌝ }
 {
@@ -58,7 +58,7 @@ pub fn end_line(out: &mut [u8], at: usize) -> usize
 }
 
 // The line BAD, with the offset of the mark at which the program stops.
-pub fn put_bad(out: &mut [u8], at: usize, offset: u64) -> usize
+pub(crate) fn put_bad(out: &mut [u8], at: usize, offset: u64) -> usize
     requires { ⌜ at + 25 ≤ length (now out) ⌝ }
     ensures { λ r. ⌜ r ≤ at + 25 ⌝ }
 {

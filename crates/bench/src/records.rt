@@ -105,7 +105,7 @@ impl Stream {
     }
 
     // The next record.
-    pub fn next(self, input: &mut [u8], out: &[u8]) -> Found
+    pub(crate) fn next(self, input: &mut [u8], out: &[u8]) -> Found
         requires { ⌜ Fits self × (length (now input) ≡ 65536) × (length (now out) ≡ 65536) ⌝ }
         ensures { λ r. ⌜ Whole (self .offset) r ⌝ }
     {

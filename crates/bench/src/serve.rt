@@ -186,7 +186,7 @@ fn begin(bytes: &[u8], out: &mut [u8]) -> Begun
 }
 
 // Makes the device by the first record and serves the others: how many bytes of the output buffer are not written yet.
-pub fn run(input: &mut [u8], out: &mut [u8], reply: &mut [u8]) -> usize
+pub(crate) fn run(input: &mut [u8], out: &mut [u8], reply: &mut [u8]) -> usize
     requires { ⌜ (length (now input) ≡ 65536) × (length (now out) ≡ 65536) × (length (now reply) ≡ 2048) ⌝ }
     ensures { λ r. ⌜ r ≤ 65536 ⌝ }
 {

@@ -17,14 +17,14 @@ pub struct Stream {
 }
 
 // Writes the first n bytes of the output buffer. Where that fails there is nobody to tell.
-pub fn flush(out: &[u8], n: usize)
+pub(crate) fn flush(out: &[u8], n: usize)
     requires { ⌜ n ≤ length (now out) ⌝ }
 {
     io::write_all(STDOUT_FILENO, &out[..n]);
 }
 
 // Sees to room for a line, of which none is longer than 4,200 bytes: how many bytes of the output buffer are not written then.
-pub fn make_room(out: &[u8], used: usize) -> usize
+pub(crate) fn make_room(out: &[u8], used: usize) -> usize
     requires { ⌜ (used ≤ 65536) × (length (now out) ≡ 65536) ⌝ }
     ensures { λ r. ⌜ r + 4200 ≤ 65536 ⌝ }
 {
@@ -73,7 +73,7 @@ fn read_until(input: &mut [u8], end: usize, n: usize) -> usize
 
 impl Stream {
     // The stream with n bytes or more not used, or with all that the input has left.
-    pub fn want(self, input: &mut [u8], out: &[u8], n: usize) -> Stream
+    pub(crate) fn want(self, input: &mut [u8], out: &[u8], n: usize) -> Stream
         requires { ⌜ Fits self × (n ≤ 65536) × (length (now input) ≡ 65536) × (length (now out) ≡ 65536) ⌝ }
         ensures { λ r. ⌜ Fits r × (r .offset ≡ self .offset) ⌝ }
     {

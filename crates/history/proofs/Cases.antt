@@ -22,7 +22,7 @@ pub cases-hold : map given-of cases ≡ map stated-of cases
 unfolding cases full step outcome run-command admission commands le number part field splice in-run uncovered keeps with-drop report-entries reportable sharing record-bytes records-bytes handle-of bit need Event.event-report Event.report-code Event.has-room Event.stamped Event.handle-after Event.reported Clear.clear-event-records Clear.clear-code Clear.mismatch Clear.clear-log-code Clear.without Clear.clear-size Clear.clear-log Clear.handles-at Clear.all-flag device-time clear-event-records line-code range-code inject-poison clear-poison list-flags list-header list-reply get-poison-list Device.make Device.event-report Device.media-report Device.media-code Device.line-test
 cases-hold = refl
 
--- the list of 256 entries that P7 to P10 start from is the one that a report and 255 injections make of a new device
+-- the list of 256 entries that P7 to P9 start from is the one that a report and 255 injections make of a new device
 pub full-reached : after new-unit (media-report 0 64000 3 2 ∷ injections 255) ≡ full
 unfolding full step outcome run-command admission commands le number part field splice in-run uncovered keeps with-drop report-entries reportable sharing record-bytes records-bytes handle-of bit need Event.event-report Event.report-code Event.has-room Event.stamped Event.handle-after Event.reported Clear.clear-event-records Clear.clear-code Clear.mismatch Clear.clear-log-code Clear.without Clear.clear-size Clear.clear-log Clear.handles-at Clear.all-flag device-time clear-event-records line-code range-code inject-poison clear-poison list-flags list-header list-reply get-poison-list Device.make Device.event-report Device.media-report Device.media-code Device.line-test
 full-reached = refl

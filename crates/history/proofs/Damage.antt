@@ -13,7 +13,7 @@ use Rattle.mailbox.specs.State.{DeviceState}
 use Rattle.mailbox.specs.DeviceCalls as Device
 use Rattle.history.specs.Calls.{Call, command, event-report, media-report, line-test, event-status, damage-total, step, after}
 use Rattle.history.specs.Paper.{line-at, write-command, write, history}
-use Rattle.history.specs.Demand3.{SaysClean}
+use Rattle.history.specs.Demand3.{Blocks}
 use Rattle.history.specs.Damage.{reports, clears, NotCleared}
 use Rattle.history.proofs.Demand3.{demand-3}
 
@@ -83,16 +83,16 @@ set-kept-by-all : (d : DeviceState) (p : Paper) (cs : List Call) (k : ℕ) → p
 set-kept-by-all d p [] k h n = h
 set-kept-by-all d p (c ∷ cs) k h n = set-kept-by-all (step d c .next) (write p c (step d c .code)) cs k (set-kept p c (step d c .code) k h (n .0)) (n .1)
 
--- A line that a call reported damaged, and that no later call cleared, is not answered Clean: on any new device, after any calls before and after.
+-- A line that a call reported damaged, and that no later call cleared, is answered, and not Clean: on any new device, after any calls before and after.
 pub reported-blocks : (v p : ℕ) (earlier later : List Call) (c : Call) (k : ℕ)
     → reports c (step (after (Device.make v p .next) earlier) c .code) k ≡ true
     → NotCleared (step (after (Device.make v p .next) earlier) c .next) later k
-    → SaysClean (after (Device.make v p .next) (earlier ++ (c ∷ later))) k → ⊥
-reported-blocks v p earlier later c k reported spared says =
-    demand-3 v p (earlier ++ (c ∷ later)) .blocked k
+    → Blocks (after (Device.make v p .next) (earlier ++ (c ∷ later))) k
+reported-blocks v p earlier later c k reported spared =
+    rw (← device-after made blank-paper (earlier ++ (c ∷ later)))
+    (demand-3 v p (earlier ++ (c ∷ later)) .blocked k
     (ap (λ (w : Paper). w .set k) (paper-of-both made blank-paper earlier (c ∷ later))
-    ∙ set-kept-by-all (step d c .next) (write w c (step d c .code)) later k (set-reported w c (step d c .code) k reported) spared)
-    (rw (device-after made blank-paper (earlier ++ (c ∷ later))) says)
+    ∙ set-kept-by-all (step d c .next) (write w c (step d c .code)) later k (set-reported w c (step d c .code) k reported) spared))
   where
     made : DeviceState
     made = Device.make v p .next

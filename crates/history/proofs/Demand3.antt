@@ -17,7 +17,7 @@ use Rattle.mailbox.specs.PoisonCommands.{line-code}
 use Rattle.mailbox.specs.DeviceCalls as Device
 use Rattle.history.specs.Calls.{Call, step}
 use Rattle.history.specs.Paper.{write, history}
-use Rattle.history.specs.Demand3.{SaysClean, Demand3}
+use Rattle.history.specs.Demand3.{SaysClean, Blocks, Demand3}
 use Rattle.history.proofs.Steps.{Holds, call-holds}
 
 -- every list of calls
@@ -38,12 +38,12 @@ module _ (d : DeviceState) (k : ℕ) where
   on-device h = simp (remainder k, quotient k, lt-ltb k (lines-of d) h)
 
   -- a line of the device is answered as the list has it
-  told : k < lines-of d → Device.line-test d (k * 64) ≡ record { code = 0; answer = Line.line-test (d .poison) k }
+  told : k < lines-of d → Device.line-test d (k * 64) ≡ Device.told 0 (Line.line-test (d .poison) k)
   unfolding Device.line-test
   told h = simp (on-device h, quotient k)
 
 -- what holds of a device and its paper is what the demand asks
-demanded : (n : ℕ) (d : DeviceState) (p : Paper) → Holds n d p → Demand3 n d p
+pub demanded : (n : ℕ) (d : DeviceState) (p : Paper) → Holds n d p → Demand3 n d p
 demanded n d p h =
     record {
       entries = a .entries;
@@ -51,12 +51,16 @@ demanded n d p h =
       inside = a .inside;
       size = a .size;
       flag = a .flag;
-      blocked = λ k e c. a .not-clean k (a .inside k e) e (sym (ap (λ (o : Device.LineOutcome). answer-number (o .answer)) (told d k (rw (h .lines) (a .inside k e)))) ∙ c .answer);
+      dropped-inside = a .dropped-inside;
+      blocked = λ k e. blocks k (a .inside k e) (a .not-clean k (a .inside k e) e);
       clean = λ o k l e. says k l (a .clean-else o k l e);
     }
   where
     a : Agrees n (d .poison) p
     a = agrees n (d .poison) p (h .consistent)
+
+    blocks : (k : ℕ) → k < n → (answer-number (Line.line-test (d .poison) k) ≡ 0 → ⊥) → Blocks d k
+    blocks k l f = let t = told d k (rw (h .lines) l) in record { code = rw t refl; answer = λ e. f (sym (ap (λ (o : Device.LineOutcome). o .number) t) ∙ e) }
 
     says : (k : ℕ) → k < n → answer-number (Line.line-test (d .poison) k) ≡ 0 → SaysClean d k
     says k l e = let t = told d k (rw (h .lines) l) in record { code = rw t refl; answer = rw t e }
@@ -70,7 +74,7 @@ made-empty v p = go (leb 1 (v + p) && leb (v + p) 1023)
     go true = refl
     go false = refl
 
-holds-made : (v p : ℕ) → Holds (lines-of (Device.make v p .next)) (Device.make v p .next) blank-paper
+pub holds-made : (v p : ℕ) → Holds (lines-of (Device.make v p .next)) (Device.make v p .next) blank-paper
 holds-made v p = record { lines = refl; consistent = rw (made-empty v p) (consistent-blank (lines-of (Device.make v p .next))) }
 
 -- Demand 3: after every list of calls on a new device, refused ones included, with any arguments and whatever the clock does

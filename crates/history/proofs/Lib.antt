@@ -1,5 +1,7 @@
+-- The theorems over every list of calls.
 pub mod Steps
 pub mod Demand1
 pub mod Demand3
 pub mod Damage
+pub mod Ran
 pub mod Cases

@@ -21,6 +21,8 @@ use Rattle.mailbox.specs.EventCommands.{clear-event-records}
 use Rattle.mailbox.specs.PoisonCommands.{aligned, line-of, line-code, range-code, inject-poison, clear-poison}
 use Rattle.mailbox.specs.Mailbox.{run-command, outcome}
 use Rattle.mailbox.specs.DeviceCalls as Device
+use Rattle.mailbox.proofs.Addresses.{line-inside}
+use Rattle.mailbox.proofs.DeviceAnswers.{media-zero}
 use Rattle.history.specs.Calls.{Call, command, event-report, media-report, line-test, event-status, damage-total, step}
 use Rattle.history.specs.Paper.{line-at, write-command, write}
 
@@ -62,19 +64,6 @@ run-leaves d op p t i c =
     (either d (eqb op 0x4300) _ _ (same-self d)
     (same-self d)))))))))))
 
--- ---- the checks of an address that gave 0
-need-zero : (t : Bool) (r x : ℕ) → 0 < r → cond t x r ≡ 0 → (t ≡ true) × (x ≡ 0)
-need-zero true r x pos e = (refl, e)
-need-zero false r x pos e = absurd (omega arith)
-
-line-inside : (lines address : ℕ) → line-code lines address ≡ 0 → line-of address < lines
-unfolding line-code
-line-inside lines address e = ltb-true (line-of address) lines (need-zero (ltb (line-of address) lines) 0xf 0 (omega arith) (need-zero (aligned address) 2 _ (omega arith) e .1) .0)
-
-range-inside : (lines address n : ℕ) → range-code lines address n ≡ 0 → line-of address + n ≤ lines
-unfolding range-code
-range-inside lines address n e = leb-true (line-of address + n) lines (need-zero (leb (line-of address + n) lines) 0xf 0 (omega arith) (need-zero (aligned address) 2 _ (omega arith) e .1) .0)
-
 -- ---- Inject Poison and Clear Poison
 inject-keeps : (n : ℕ) (s : PoisonState) (p : Paper) (payload : List ℕ) → Consistent n s p
     → Consistent n (inject-poison n s payload .list) (cond (eqb (inject-poison n s payload .code) 0) (write-command p 0x4301 payload) p)
@@ -108,11 +97,6 @@ clear-keeps n s p payload time h = checked (eqb (line-code n a) 0) refl
     checked false e = rw (e, e) h
 
 -- ---- the device-side calls
-media-inside : (n address lines kind : ℕ) → Device.media-code n address lines kind ≡ 0 → line-of address + lines ≤ n
-unfolding Device.media-code
-media-inside n address lines kind e =
-    range-inside n address lines (need-zero (ltb 0 lines) 2 _ (omega arith) (need-zero (reportable kind) 2 _ (omega arith) e .1) .1)
-
 event-leaves : (d : DeviceState) (time log : ℕ) (bytes : List ℕ) → Same d (Device.event-report d time log bytes .next)
 unfolding Device.event-report
 event-leaves d time log bytes = record { lines = refl; list = refl }
@@ -174,7 +158,7 @@ module _ (n : ℕ) (d : DeviceState) (p : Paper) (h : Holds n d p) where
           rw e
           (record {
             lines = h .lines;
-            consistent = consistent-report n (d .poison) p (h .consistent) (line-of address) lines kind (device-time (d .clock) time) (media-inside n address lines kind (rw (h .lines) at (eqb-true (Device.media-code (lines-of d) address lines kind) 0 e)));
+            consistent = consistent-report n (d .poison) p (h .consistent) (line-of address) lines kind (device-time (d .clock) time) (media-zero n address lines kind (rw (h .lines) at (eqb-true (Device.media-code (lines-of d) address lines kind) 0 e)) .1);
           })
       checked false e = rw (e, e) h
 

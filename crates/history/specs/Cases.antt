@@ -2,11 +2,10 @@
 use Prim.Native.Nat.{ℕ, zero, suc, _+_, _-_, _*_}
 use mathlib.Core.Bool.{Bool, false, cond}
 use mathlib.Core.List.{List, [], _∷_, _++_, map}
-use lib.ListN.{length, replicate}
+use lib.ListN.{length, set, replicate}
 use Rattle.wire.specs.Wire.{le, field}
 use Rattle.poison.specs.Runs.{run}
 use Rattle.poison.specs.State.{Entry, entry}
-use Rattle.poison.specs.LineTest.{answer-number, answer-type}
 use Rattle.events.specs.Log.{log-at, handle-of}
 use Rattle.mailbox.specs.State.{DeviceState, lines-of, with-logs, with-poison}
 use Rattle.mailbox.specs.Mailbox.{outcome}
@@ -70,7 +69,7 @@ handles-of d = map handle-of (log-at (d .logs) 0 .held)
 
 -- a device whose log 0 gives handle 65,535 next
 abbrev pub last-handle : DeviceState
-last-handle = with-logs new-unit (record { held = []; next = 65535; overflow-count = 0; first-overflow = 0; last-overflow = 0 } ∷ [])
+last-handle = with-logs new-unit (set (new-unit .logs) 0 (record { held = []; next = 65535; overflow-count = 0; first-overflow = 0; last-overflow = 0 }))
 
 -- ---- the table
 pub record Case : Type 0 where
@@ -109,7 +108,7 @@ cases =
     ∷ Device.damage-total full
     ∷ Device.damage-total (step full (clear 1001) .next)
     ∷ number-of (step full (clear 1001) .next .poison .overflow)
-    ∷ answer-number (Device.line-test (step full (clear 1001) .next) (1002 * 64) .answer)
+    ∷ Device.line-test (step full (clear 1001) .next) (1002 * 64) .number
     ∷ [])
     (0 ∷ 258 ∷ 256 ∷ 1 ∷ 2 ∷ [])
     -- P9 clear its first line: nothing dropped
@@ -145,8 +144,8 @@ example =
     (Device.make 1 0 .code ∷ [])
     ∷ (Device.media-report new-unit 0 128 3 2 .code ∷ Device.media-report new-unit 0 128 3 2 .stored ∷ Device.media-report new-unit 0 128 3 2 .dropped ∷ [])
     ∷ (outcome reported 0x4302 (le 8 192 ++ replicate 64 0) 0 2048 .code ∷ length (outcome reported 0x4302 (le 8 192 ++ replicate 64 0) 0 2048 .reply) ∷ [])
-    ∷ (Device.line-test cleared 192 .code ∷ answer-number (Device.line-test cleared 192 .answer) ∷ answer-type (Device.line-test cleared 192 .answer) ∷ [])
-    ∷ (Device.line-test cleared 128 .code ∷ answer-number (Device.line-test cleared 128 .answer) ∷ answer-type (Device.line-test cleared 128 .answer) ∷ [])
+    ∷ (Device.line-test cleared 192 .code ∷ Device.line-test cleared 192 .number ∷ Device.line-test cleared 192 .kind ∷ [])
+    ∷ (Device.line-test cleared 128 .code ∷ Device.line-test cleared 128 .number ∷ Device.line-test cleared 128 .kind ∷ [])
     ∷ outcome cleared 0x4300 (le 8 0 ++ le 8 16) 0 2048 .reply
     ∷ []
 

@@ -6,7 +6,6 @@ use mathlib.Core.Bool.{true, false}
 use lib.ListN.{length, getD}
 use Rattle.poison.specs.Runs.{run, in-run, count}
 use Rattle.poison.specs.State as Poison
-use Rattle.poison.specs.LineTest.{answer-number}
 use Rattle.poison.specs.Paper.{Paper}
 use Rattle.mailbox.specs.State.{DeviceState}
 use Rattle.mailbox.specs.DeviceCalls as Device
@@ -14,7 +13,12 @@ use Rattle.mailbox.specs.DeviceCalls as Device
 -- the host asks about line k and is told Clean: the call succeeds, and its answer is number 0
 pub record SaysClean (d : DeviceState) (k : ℕ) : Type 0 where
   pub code : Device.line-test d (k * 64) .code ≡ 0
-  pub answer : answer-number (Device.line-test d (k * 64) .answer) ≡ 0
+  pub answer : Device.line-test d (k * 64) .number ≡ 0
+
+-- the host asks about line k and is told something else than Clean
+pub record Blocks (d : DeviceState) (k : ℕ) : Type 0 where
+  pub code : Device.line-test d (k * 64) .code ≡ 0
+  pub answer : Device.line-test d (k * 64) .number ≡ 0 → ⊥
 
 -- on a device of n lines
 pub record Demand3 (n : ℕ) (d : DeviceState) (p : Paper) : Type 0 where
@@ -22,14 +26,15 @@ pub record Demand3 (n : ℕ) (d : DeviceState) (p : Paper) : Type 0 where
   pub entries : Poison.shapes (d .poison .entries) ≡ p .entries
   -- "After the list no line is in two entries."
   pub apart : (i j k : ℕ) → i < j → j < length (d .poison .entries) → in-run (getD (Poison.shapes (d .poison .entries)) i (run 0 0)) k ≡ true → in-run (getD (Poison.shapes (d .poison .entries)) j (run 0 0)) k ≡ false
-  -- every line of the paper set is a line of the device, so that `count .. n` below is the size of the set
+  -- every line of the paper set is a line of the device, and every dropped line is in the paper set, so that `count .. n` below is the size of each
   pub inside : (k : ℕ) → p .set k ≡ true → k < n
+  pub dropped-inside : (k : ℕ) → p .dropped k ≡ true → p .set k ≡ true
   -- "The size of the paper set is the sum of entry lengths plus the number of lines dropped for want of an entry and neither stored nor cleared since, each
   -- such line counted once."
   pub size : count (p .set) n ≡ Device.damage-total d + count (p .dropped) n
   -- "The overflow flag is set exactly when a line was ever dropped."
   pub flag : d .poison .overflow ≡ p .ever
-  -- "The line test says Clean for no line in the paper set,"
-  pub blocked : (k : ℕ) → p .set k ≡ true → SaysClean d k → ⊥
+  -- "The line test says Clean for no line in the paper set,": the call succeeds, and its answer is not Clean
+  pub blocked : (k : ℕ) → p .set k ≡ true → Blocks d k
   -- "and, while the flag is clear, for every other line of the device."
   pub clean : d .poison .overflow ≡ false → (k : ℕ) → k < n → p .set k ≡ false → SaysClean d k

@@ -1,5 +1,7 @@
+-- The definitions that the theorems over lists of calls speak of.
 pub mod Calls
 pub mod Paper
 pub mod Demand3
 pub mod Damage
+pub mod Ran
 pub mod Cases

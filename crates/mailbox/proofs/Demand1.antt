@@ -1,17 +1,20 @@
 -- Demand 1: what is refused gives nothing and changes nothing. Shown of the definitions that the contracts cite, for every command and for the two device-side
 -- calls that change a device. (The contracts' own field `refused` says further that the code hands back the very same value.) Assumes nothing.
-use mathlib.Core.Path.{_≡_, refl, ap}
+use mathlib.Core.Path.{_≡_, refl, ap, _∙_}
 use mathlib.Core.Bool.{Bool, true, false, cond}
 use mathlib.Core.List.{List, []}
 use Prim.Native.Nat.{ℕ, _+_}
 use lib.Dec.{eqb, leb}
 use lib.ListN.{length}
-use Rattle.wire.specs.Wire.{field, part, same}
+use Rattle.wire.specs.Wire.{field, part, splice, same}
 use Rattle.poison.specs.State.{PoisonState}
 use Rattle.poison.specs.Inject.{injects}
 use Rattle.events.specs.Log.{LogState}
 use Rattle.events.proofs.Laws.{refused-report-changes-nothing, refused-clear-changes-nothing, refused-get-replies-nothing}
-use Rattle.mailbox.specs.State.{DeviceState, lines-of, with-logs, with-poison}
+use Rattle.mailbox.specs.State.{DeviceState, lines-of, with-logs, with-poison, state-of}
+use Rattle.mailbox.specs.declared.device.Device.{Device}
+use Rattle.mailbox.specs.declared.device.Answer.{Answer}
+use Rattle.mailbox.specs.Contracts.{Answered}
 use Rattle.mailbox.specs.Numbers.{mailbox-size}
 use Rattle.mailbox.specs.Commands.{admission}
 use Rattle.mailbox.specs.Outcome.{Reply, replied, no-reply, Outcome, reads, changes}
@@ -131,3 +134,12 @@ pub media-refusal : (d : DeviceState) (time address n kind : ℕ) → (media-rep
 unfolding media-report
 media-refusal d time address n kind =
     either (NothingStored d) (eqb (media-code (lines-of d) address n kind) 0) (record { nothing = λ h. absurd (h refl) }) (record { nothing = λ h. (refl, refl, refl) }) .nothing
+
+-- Demand 1 of the code: a command refused by `Device::command` has length 0, hands back the very same device and alters no byte of the reply buffer.
+pub refusal-unaltered : (d : Device) (op : ℕ) (p : List ℕ) (time : ℕ) (r : Answer) (before after : List ℕ)
+    → Answered (outcome (state-of d) op p time (length before)) d r before after → (r .code ≡ 0 → ⊥)
+    → (r .length ≡ 0) × (r .device ≡ d) × (after ≡ before)
+unfolding splice
+refusal-unaltered d op p time r before after a h =
+    let none : outcome (state-of d) op p time (length before) .reply ≡ [] = refusal (state-of d) op p time (length before) (λ z. h (a .code ∙ z)) .0 in
+    (a .size ∙ ap length none, a .refused h, a .bytes ∙ ap (λ (bs : List ℕ). splice 0 bs before) none)

@@ -25,6 +25,7 @@ use Rattle.mailbox.specs.Outcome.{need}
 use Rattle.mailbox.specs.Clock.{device-time}
 use Rattle.mailbox.specs.PoisonCommands.{line-of, line-code, range-code}
 use Rattle.mailbox.specs.DeviceCalls.{new-device, make, MakeOutcome, event-report, media-code, media-report, MediaOutcome, line-test, LineOutcome}
+use Rattle.poison.specs.LineTest.{answer-number, answer-type}
 use Rattle.mailbox.specs.Contracts.{Makes, EventDone, MediaDone, LineDone}
 use Rattle.mailbox.proofs.AdmissionLaws.{need-fails, need-holds, need-zero}
 use Rattle.mailbox.proofs.Addresses.{range-ends}
@@ -167,10 +168,10 @@ module _ (d : Device) (address : ℕ) where
       → LineDone (line-test (state-of d) address) (record { code = code; answer = Unknown })
   unfolding line-test
   line-refused code e f =
-      subst (λ (x : LineOutcome). LineDone x (record { code = code; answer = Unknown })) (sym (simp (sym e, ne-eqb _ _ f))) (record { code = refl; answer = refl })
+      subst (λ (x : LineOutcome). LineDone x (record { code = code; answer = Unknown })) (sym (simp (sym e, ne-eqb _ _ f))) (record { code = refl; number = refl; kind = refl })
 
   pub line-tested : (a : LineTest) → line-code (lines-of (state-of d)) address ≡ 0 → a ≡ list-test (P.state-of (d .poison)) (line-of address)
       → LineDone (line-test (state-of d) address) (record { code = 0; answer = a })
   unfolding line-test
   line-tested a z e =
-      subst (λ (x : LineOutcome). LineDone x (record { code = 0; answer = a })) (sym (simp z)) (record { code = refl; answer = e })
+      subst (λ (x : LineOutcome). LineDone x (record { code = 0; answer = a })) (sym (simp z)) (record { code = refl; number = ap answer-number e; kind = ap answer-type e })

@@ -1,3 +1,4 @@
+-- The laws of crate `mailbox` that more than one proof cites, by subject.
 pub mod Replies
 pub mod AdmissionLaws
 pub mod EffectsLaws

@@ -7,6 +7,7 @@ use lib.ListN.{length}
 use Rattle.wire.specs.Wire.{splice}
 use Rattle.poison.specs.State as P
 use Rattle.poison.specs.declared.list.PoisonList.{PoisonList}
+use Rattle.poison.specs.LineTest.{answer-number, answer-type}
 use Rattle.events.specs.declared.status.Status.{Status}
 use Rattle.events.specs.Status.{StatusOutcome}
 use Rattle.mailbox.specs.declared.outcome.Done.{Done}
@@ -67,10 +68,11 @@ pub record MediaDone (o : MediaOutcome) (d : Device) (r : MediaAnswer) : Type 0 
   pub refused : (r .code ≡ 0 → ⊥) → r .device ≡ d
   pub valid : ValidDevice (r .device)
 
--- `line_test`
+-- `line_test`: the enum by the definitions that give document 01's number and type for each case, which together tell the case
 pub record LineDone (o : LineOutcome) (r : LineAnswer) : Type 0 where
   pub code : r .code ≡ o .code
-  pub answer : r .answer ≡ o .answer
+  pub number : answer-number (r .answer) ≡ o .number
+  pub kind : answer-type (r .answer) ≡ o .kind
 
 -- `event_status`
 pub record StatusGiven (o : StatusOutcome) (r : Status) : Type 0 where

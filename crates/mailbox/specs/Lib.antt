@@ -1,3 +1,4 @@
+-- The definitions that the contracts of crate `mailbox` cite, by subject.
 pub mod Numbers
 pub mod State
 pub mod Outcome

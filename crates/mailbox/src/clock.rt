@@ -33,7 +33,7 @@ impl Clock {
     }
 
     // Get Timestamp.
-    pub fn get_timestamp(self, time: u64, reply: &mut [u8]) -> Done
+    pub(crate) fn get_timestamp(self, time: u64, reply: &mut [u8]) -> Done
         requires { ⌜ 8 ≤ length (now reply) ⌝ }
         ensures { λ r. ⌜ Replied (get-timestamp self time) r (now (reply .entry)) (now (reply .exit)) ⌝ }
     {
@@ -44,7 +44,7 @@ impl Clock {
 }
 
 // Set Timestamp: the clock that follows.
-pub fn set_timestamp(payload: &[u8], time: u64) -> Clock
+pub(crate) fn set_timestamp(payload: &[u8], time: u64) -> Clock
     requires { ⌜ length (now payload) ≡ 8 ⌝ }
     ensures { λ r. ⌜ r ≡ set-timestamp (now (payload .entry)) time ⌝ }
 {

@@ -43,7 +43,7 @@ pub struct Made {
 }
 
 // The lines of so many units.
-pub fn lines_of(volatile: u16, persistent: u16) -> u32
+pub(crate) fn lines_of(volatile: u16, persistent: u16) -> u32
     requires { ⌜ volatile + persistent ≤ most-units ⌝ }
     ensures { λ r. ⌜ r ≡ unit-lines * (volatile + persistent) ⌝ }
 {

@@ -5,7 +5,7 @@ use mathlib.Core.Bool.{Bool, true, false, not, _&&_, _||_, cond, true≢false, f
 use mathlib.Core.List.{List, [], _∷_, map}
 use Prim.Native.Nat.{ℕ, zero, suc, _+_, _-_, _≤_, _<_}
 use native.Mathlib.Omega.{arith}
-use borrow.Author.Tests.{ltb-true}
+use borrow.Author.Tests.{le-leb, lt-ltb, ltb-true}
 use lib.Dec.{ltb, eqb}
 use lib.ListN.{length, take, drop, getD, length-map, length-take, take-append-drop}
 use Rattle.poison.specs.Runs.{Run, run, end, in-run, in-runs, Chain, insert, runs-of, cut, after-in, slots, room, uncovered, some-run, keeps, lost}
@@ -77,6 +77,7 @@ agrees n s p g =
       not-clean = not-clean;
       clean-else = clean-else;
       inside = g .inside;
+      dropped-inside = λ k e. g .split k ∙ rw e (or-true (in-runs (p .entries) k));
     }
   where
     not-clean : (k : ℕ) → k < n → p .set k ≡ true → answer-number (line-test (s) k) ≡ 0 → ⊥
@@ -314,3 +315,9 @@ module _ (n : ℕ) (s : PoisonState) (p : Paper) (g : Consistent n s p) where
 pub consistent-blank : (n : ℕ) → Consistent n empty blank-paper
 consistent-blank n =
     record { same = refl; few = omega arith; chain = omega arith; split = λ k. refl; apart = λ k. refl; flag = refl; never = λ e k. refl; inside = λ k e. absurd (false≢true e) }
+
+-- a run that was dropped has a line: where the flag was set for one, a line joined the dropped set
+pub dropped-run-has-a-line : (lo hi : ℕ) (rs : List Run) → Chain lo hi rs → some-run rs ≡ true → ((k : ℕ) × (in-runs rs k ≡ true))
+unfolding in-run
+dropped-run-has-a-line lo hi [] c e = absurd (false≢true e)
+dropped-run-has-a-line lo hi (r ∷ rs) c e = (r .start, simp (le-leb (r .start) (r .start) (omega arith), lt-ltb (r .start) (end r) (omega arith)))

@@ -1,3 +1,4 @@
+-- The laws of crate `poison` that more than one proof cites, by subject.
 pub mod Moves
 pub mod Counts
 pub mod RunLaws

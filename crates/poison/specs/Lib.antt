@@ -1,3 +1,4 @@
+-- The definitions that the contracts of crate `poison` cite, by subject.
 pub mod Runs
 pub mod Shift
 pub mod State

@@ -13,6 +13,9 @@ use Rattle.poison.specs.Inject.{after-inject, injects}
 use Rattle.poison.specs.Clear.{after-clear}
 use Rattle.poison.specs.LineTest.{line-test, answer-number}
 
+-- `ever` says whether a line ever joined the dropped set: it is set where a run is dropped, and a run has a line (`dropped-run-has-a-line` of
+-- proofs/Agreement.antt). The paper shares the rules on runs (`uncovered`, `keeps`, `lost`) with the list; `found-lines`, `found-ascending` and
+-- `found-maximal` of proofs/Laws.antt say of the first, line by line, that it is document 01's.
 -- "It has the paper set, paper entries (start and length, ascending) and a dropped set, all empty at first."
 pub record Paper : Type 0 where
   pub set : ℕ → Bool
@@ -69,6 +72,7 @@ pub record Agrees (n : ℕ) (s : PoisonState) (p : Paper) : Type 0 where
   pub flag : s .overflow ≡ p .ever
   pub not-clean : (k : ℕ) → k < n → p .set k ≡ true → answer-number (line-test s k) ≡ 0 → ⊥
   pub inside : (k : ℕ) → p .set k ≡ true → k < n
+  pub dropped-inside : (k : ℕ) → p .dropped k ≡ true → p .set k ≡ true
   pub clean-else : s .overflow ≡ false → (k : ℕ) → k < n → p .set k ≡ false → answer-number (line-test s k) ≡ 0
 
 -- ---- every list of changes at this layer, refused ones included

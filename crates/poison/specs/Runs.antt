@@ -1,5 +1,6 @@
 -- Lines, sets of lines and runs of lines: what document 01, "Poison list", is stated over. A line is a number; a set of lines
--- says of each number whether it is in. Nothing here knows of entries, of types or of a device.
+-- says of each number whether it is in. The last part has the rules that the list and the paper of demand 3 share; nothing here knows of types or of a
+-- device.
 use mathlib.Core.Bool.{Bool, true, false, not, _&&_, _||_, cond}
 use mathlib.Core.List.{List, [], _∷_, _++_}
 use Prim.Native.Nat.{ℕ, zero, suc, _+_, _-_, _≤_, _<_}

@@ -1,2 +1,3 @@
+-- The laws of crate `wire` that more than one proof cites, by subject.
 pub mod Laws
 pub mod Splice

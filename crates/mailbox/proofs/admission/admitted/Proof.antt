@@ -1,3 +1,4 @@
+-- `mailbox::admission::admitted` meets its contract. Assumes nothing.
 use Rattle.mailbox.specs.Commands.{commands}
 use Rattle.mailbox.proofs.AdmissionLaws.{admission-room, admission-long, admission-at, admission-unknown}
 use mathlib.Core.Path.{_∙_}

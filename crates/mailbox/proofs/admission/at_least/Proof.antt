@@ -1,3 +1,4 @@
+-- `mailbox::admission::at_least` meets its contract. Assumes nothing.
 use Rattle.mailbox.proofs.AdmissionLaws.{need-holds, need-fails}
 use Prim.Native.Nat.{_-_}
 use borrow.Author.Tests.{le-leb, lt-leb}

@@ -1,3 +1,4 @@
+-- `mailbox::admission::exactly` meets its contract. Assumes nothing.
 use Rattle.mailbox.proofs.AdmissionLaws.{need-holds, need-fails}
 use Prim.Native.Nat.{_-_}
 use borrow.Author.Tests.{eq-eqb, ne-eqb}

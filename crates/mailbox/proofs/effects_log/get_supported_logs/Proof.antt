@@ -1,3 +1,4 @@
+-- `mailbox::effects_log::get_supported_logs` meets its contract. Assumes nothing.
 use Rattle.mailbox.specs.EffectsLog.{get-supported-logs}
 use Rattle.mailbox.proofs.Replies.{bytes-written}
 use Rattle.mailbox.proofs.EffectsLaws.{supported-written, supported-length}

@@ -1,3 +1,4 @@
+-- `mailbox::identity::identify` meets its contract. Assumes nothing.
 use Rattle.mailbox.specs.Identity.{identify}
 use Rattle.mailbox.proofs.Replies.{bytes-written}
 use Rattle.mailbox.proofs.IdentityLaws.{identity-written, identity-length}

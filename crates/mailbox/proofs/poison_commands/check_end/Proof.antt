@@ -1,3 +1,4 @@
+-- `mailbox::poison_commands::check_end` meets its contract. Assumes nothing.
 use Rattle.mailbox.proofs.Addresses.{end-past, end-inside}
 use Prim.Native.Nat.{_-_}
 use borrow.Author.Needs.{needs}

@@ -1,3 +1,4 @@
+-- `mailbox::poison_commands::clear` meets its contract. Assumes nothing.
 use Prim.Native.Nat.{_/_}
 use Rattle.poison.specs.State.{capacity}
 use Rattle.mailbox.specs.PoisonCommands.{line-code}

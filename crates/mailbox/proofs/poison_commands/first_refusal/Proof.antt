@@ -1,3 +1,4 @@
+-- `mailbox::poison_commands::first_refusal` meets its contract. Assumes nothing.
 use Rattle.mailbox.proofs.AdmissionLaws.{need-holds, need-fails}
 use borrow.Author.Tests.{eq-eqb, ne-eqb}
 use Prim.Native.Nat.{_-_}

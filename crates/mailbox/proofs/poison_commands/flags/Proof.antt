@@ -1,3 +1,4 @@
+-- `mailbox::poison_commands::flags` meets its contract. Assumes nothing.
 use lib.Bits.{or-shifted-r}
 use Prim.Native.Nat.{_%_}
 use Rattle.mailbox.proofs.Headers.{flags-of}

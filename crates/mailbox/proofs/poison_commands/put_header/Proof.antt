@@ -1,3 +1,4 @@
+-- `mailbox::poison_commands::put_header` meets its contract. Assumes nothing.
 use Rattle.mailbox.proofs.Headers.{header-written}
 use mathlib.Core.Path.{_∙_}
 use Prim.Native.Nat.{_-_}

@@ -1,3 +1,4 @@
+-- `mailbox::clock::Clock::get_timestamp` meets its contract. Assumes nothing.
 use Rattle.mailbox.specs.Clock.{get-timestamp}
 use Rattle.mailbox.proofs.Replies.{bytes-written}
 use Rattle.wire.proofs.Laws.{length-le}

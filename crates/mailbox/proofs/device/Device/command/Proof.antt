@@ -1,3 +1,4 @@
+-- `mailbox::device::Device::command` meets its contract. Assumes nothing.
 use mathlib.Core.Path.{ap₂}
 use lib.ListN.{length-map}
 use borrow.Author.Tests.{ne-eqb, eqb-true, leb-true}

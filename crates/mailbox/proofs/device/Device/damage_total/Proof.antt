@@ -1,3 +1,4 @@
+-- `mailbox::device::Device::damage_total` meets its contract. Assumes nothing.
 use Rattle.mailbox.proofs.ListAnswers.{device-any}
 use mathlib.Core.Path.{refl}
 use Prim.Native.Nat.{_-_}

@@ -1,3 +1,4 @@
+-- `mailbox::device::Device::event_report` meets its contract. Assumes nothing.
 use lib.ListN.{length-map}
 use Rattle.events.specs.Report.{report-code}
 use Rattle.events.proofs.Codes.{report-code-zero}

@@ -1,3 +1,4 @@
+-- `mailbox::device::Device::line_test` meets its contract. Assumes nothing.
 use Rattle.mailbox.specs.State.{state-of, lines-of}
 use Rattle.mailbox.specs.PoisonCommands.{line-code}
 use Rattle.mailbox.proofs.Addresses.{line-inside}

@@ -1,3 +1,4 @@
+-- `mailbox::device::Device::make` meets its contract. Assumes nothing.
 use Rattle.mailbox.proofs.DeviceAnswers.{make-none, make-many, make-taken}
 use Prim.Native.Nat.{_-_}
 use borrow.Author.Needs.{needs}

@@ -1,3 +1,4 @@
+-- `mailbox::device::Device::media_report` meets its contract. Assumes nothing.
 use Prim.Native.Nat.{_/_}
 use Rattle.poison.specs.State.{capacity}
 use Rattle.mailbox.specs.State.{state-of, lines-of}

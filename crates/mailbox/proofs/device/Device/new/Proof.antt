@@ -1,3 +1,4 @@
+-- `mailbox::device::Device::new` meets its contract. Assumes nothing.
 use lib.ListN.{replicate}
 use Rattle.mailbox.specs.Clock.{unset}
 use Prim.Native.Nat.{_-_}
