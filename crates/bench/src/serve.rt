@@ -1,26 +1,24 @@
 // Each record given to the device, and its line printed (document 01, "Bench program"). The device of some 8 KB goes by value; each function that
-// takes it has one caller, so that the compiler inlines it and drops copies.
+// takes it has one caller, so that the compiler inlines it and drops copies. Each arm of the loop stores the device that follows itself, and a line
+// test stores none: a device handed through one more struct would be one more copy.
 use crate::lines;
 use crate::output;
 use crate::records::Mark;
 use crate::stream;
 use crate::stream::Stream;
+use mailbox::device::Answer;
 use mailbox::device::Device;
+use mailbox::device_calls::EventAnswer;
+use mailbox::device_calls::MediaAnswer;
 ghost use mathlib.Core.Path.{_≡_};
 ghost use Prim.Native.Nat.{_+_, _≤_};
 ghost use lib.ListN.{length};
 ghost use Rattle.mailbox.specs.State.{ValidDevice};
 ghost use Rattle.bench.specs.Stream.{Fits};
 ghost use Rattle.bench.specs.Records.{least};
-ghost use Rattle.bench.specs.Serve.{Served, Begins};
+ghost use Rattle.bench.specs.Serve.{Replies, Begins};
 
-// The device after a record, and the bytes of the output buffer that are not written yet.
-pub struct Stepped {
-    pub used: usize,
-    pub device: Device,
-}
-
-// The same after NW, with its return number.
+// The device made by NW, its return number, and the bytes of the output buffer that are not written yet.
 pub struct Begun {
     pub code: u16,
     pub used: usize,
@@ -28,59 +26,33 @@ pub struct Begun {
 }
 
 // CM (time 8, opcode 2, length 2, payload).
-fn command(device: Device, bytes: &[u8], reply: &mut [u8], out: &mut [u8], used: usize) -> Stepped
-    requires { ⌜ ValidDevice device × (14 ≤ length (now bytes)) × (length (now reply) ≡ 2048) × (used + 4200 ≤ 65536) × (length (now out) ≡ 65536) ⌝ }
-    ensures { λ r. ⌜ Served r ⌝ }
+fn command(device: Device, bytes: &[u8], reply: &mut [u8]) -> Answer
+    requires { ⌜ ValidDevice device × (14 ≤ length (now bytes)) × (length (now reply) ≡ 2048) ⌝ }
+    ensures { λ r. ⌜ Replies r ⌝ }
 {
     let time = wire::get(bytes, 2, 8);
     let opcode = wire::get(bytes, 10, 2) as u16;
-    let answer = device.command(opcode, &bytes[14..], time, reply);
-    let end = lines::put_command(out, used, answer.code, reply, answer.length);
-    let next = answer.device;
-    Stepped {
-        used: end,
-        device: next,
-    }
+    device.command(opcode, &bytes[14..], time, reply)
 }
 
 // EV (time 8, log 1, record 128).
-fn event(device: Device, bytes: &[u8], out: &mut [u8], used: usize) -> Stepped
-    requires { ⌜ ValidDevice device × (139 ≤ length (now bytes)) × (used + 4200 ≤ 65536) × (length (now out) ≡ 65536) ⌝ }
-    ensures { λ r. ⌜ Served r ⌝ }
+fn event(device: Device, bytes: &[u8]) -> EventAnswer
+    requires { ⌜ ValidDevice device × (139 ≤ length (now bytes)) ⌝ }
+    ensures { λ r. ⌜ ValidDevice (r .device) ⌝ }
 {
     let time = wire::get(bytes, 2, 8);
-    let answer = device.event_report(time, bytes[10], &bytes[11..139]);
-    let end = lines::put_event(out, used, answer.code, answer.stored);
-    let next = answer.device;
-    Stepped {
-        used: end,
-        device: next,
-    }
+    device.event_report(time, bytes[10], &bytes[11..139])
 }
 
-// MD (time 8, address 8, lines 4, type 1): the lines stored and the lines dropped.
-fn media(device: Device, bytes: &[u8], out: &mut [u8], used: usize) -> Stepped
-    requires { ⌜ ValidDevice device × (23 ≤ length (now bytes)) × (used + 4200 ≤ 65536) × (length (now out) ≡ 65536) ⌝ }
-    ensures { λ r. ⌜ Served r ⌝ }
+// MD (time 8, address 8, lines 4, type 1).
+fn media(device: Device, bytes: &[u8]) -> MediaAnswer
+    requires { ⌜ ValidDevice device × (23 ≤ length (now bytes)) ⌝ }
+    ensures { λ r. ⌜ ValidDevice (r .device) ⌝ }
 {
     let time = wire::get(bytes, 2, 8);
     let address = wire::get(bytes, 10, 8);
     let count = wire::get(bytes, 18, 4) as u32;
-    let answer = device.media_report(time, address, count, bytes[22]);
-    let end = lines::put_pair(
-        out,
-        used,
-        b'M',
-        b'D',
-        answer.code,
-        answer.stored as u64,
-        answer.dropped as u64,
-    );
-    let next = answer.device;
-    Stepped {
-        used: end,
-        device: next,
-    }
+    device.media_report(time, address, count, bytes[22])
 }
 
 // LT (address 8): the answer's number and the type.
@@ -100,30 +72,6 @@ fn line(device: Device, bytes: &[u8], out: &mut [u8], used: usize) -> usize
         lines::answer_number(answer),
         lines::answer_kind(answer),
     )
-}
-
-// A record that the device serves. (No other mark comes here.)
-fn step(
-    device: Device,
-    mark: Mark,
-    bytes: &[u8],
-    reply: &mut [u8],
-    out: &mut [u8],
-    used: usize,
-) -> Stepped
-    requires { ⌜ ValidDevice device × (least mark ≤ length (now bytes)) × (length (now reply) ≡ 2048) × (used + 4200 ≤ 65536) × (length (now out) ≡ 65536) ⌝ }
-    ensures { λ r. ⌜ Served r ⌝ }
-{
-    match mark {
-        Mark::Command => command(device, bytes, reply, out, used),
-        Mark::Event => event(device, bytes, out, used),
-        Mark::Media => media(device, bytes, out, used),
-        Mark::Line => {
-            let end = line(device, bytes, out, used);
-            Stepped { used: end, device }
-        }
-        _ => Stepped { used, device },
-    }
 }
 
 // Where no record is served: nothing more to print at the end of the input, and otherwise the line BAD.
@@ -157,14 +105,44 @@ fn serve(made: Device, start: Stream, input: &mut [u8], out: &mut [u8], reply: &
         let to = at + size;
         let end = here.end;
         let offset = here.offset + size as u64;
-        let done = step(device, mark, &input[at..to], reply, out, used);
-        let next = done.device;
-        device = next;
+        let mut filled = used; // the bytes of the output buffer that are not written yet, with this record's line
+        match mark {
+            Mark::Command => {
+                let answer = command(device, &input[at..to], reply);
+                let next = answer.device;
+                device = next;
+                filled = lines::put_command(out, used, answer.code, reply, answer.length);
+            }
+            Mark::Event => {
+                let answer = event(device, &input[at..to]);
+                let next = answer.device;
+                device = next;
+                filled = lines::put_event(out, used, answer.code, answer.stored);
+            }
+            Mark::Media => {
+                let answer = media(device, &input[at..to]);
+                let next = answer.device;
+                device = next;
+                filled = lines::put_pair(
+                    out,
+                    used,
+                    b'M',
+                    b'D',
+                    answer.code,
+                    answer.stored as u64,
+                    answer.dropped as u64,
+                );
+            }
+            Mark::Line => {
+                filled = line(device, &input[at..to], out, used);
+            }
+            _ => {} // no other mark comes here
+        }
         s = Stream {
             at: to,
             end,
             offset,
-            used: done.used,
+            used: filled,
         };
     }
     s.used

@@ -1,5 +1,5 @@
 -- P1 to P10 of document 01, "Cases by number": one table of what the definitions give and what the document says, as numbers. Assumes nothing.
-use Prim.Native.Nat.{ℕ, zero, suc, _+_, _-_, _*_}
+use Prim.Native.Nat.{ℕ, zero, suc, _+_, _*_}
 use mathlib.Core.Bool.{Bool, false, cond}
 use mathlib.Core.List.{List, [], _∷_, _++_, map}
 use lib.ListN.{length, set, replicate}
@@ -53,10 +53,6 @@ singles a (suc n) = entry 3 (run a 1) ∷ singles (a + 2) n
 -- 256 entries: 255 of one line, and one of the three lines 1,000 to 1,002 (`full-reached` of proofs/Cases.antt: calls lead there)
 unfoldable pub full : DeviceState
 full = with-poison new-unit (record { entries = singles 0 255 ++ (entry 2 (run 1000 3) ∷ []); overflow = false; overflow-time = 0 })
-
--- a device whose last line is damaged
-abbrev pub last-line : DeviceState
-last-line = after new-unit (media-report 0 ((lines-of new-unit - 1) * 64) 1 2 ∷ [])
 
 -- n injections, at every other line below 2n, from the highest down
 abbrev pub injections : ℕ → List Call
@@ -117,9 +113,9 @@ cases =
     (0 ∷ 257 ∷ 0 ∷ [])
     -- P10 range of 0 lines at the device's end: no records (number, length of the reply, its record count)
     ∷ case
-    (outcome last-line 0x4300 (le 8 (lines-of last-line * 64) ++ le 8 0) 0 2048 .code
-    ∷ length (outcome last-line 0x4300 (le 8 (lines-of last-line * 64) ++ le 8 0) 0 2048 .reply)
-    ∷ field (outcome last-line 0x4300 (le 8 (lines-of last-line * 64) ++ le 8 0) 0 2048 .reply) 10 2
+    (outcome full 0x4300 (le 8 (lines-of full * 64) ++ le 8 0) 0 2048 .code
+    ∷ length (outcome full 0x4300 (le 8 (lines-of full * 64) ++ le 8 0) 0 2048 .reply)
+    ∷ field (outcome full 0x4300 (le 8 (lines-of full * 64) ++ le 8 0) 0 2048 .reply) 10 2
     ∷ [])
     (0 ∷ 32 ∷ 0 ∷ [])
     ∷ []

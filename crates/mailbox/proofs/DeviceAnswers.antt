@@ -81,22 +81,22 @@ module _ (d : Device) (time log : ℕ) (bytes : List ℕ) (v : ValidDevice d) wh
         valid = v;
       }
 
-  pub event-taken : (now : ℕ) (a : LogReported) → length (d .logs) ≡ 5 → now ≡ device-time (d .clock) time → report-code log (length bytes) ≡ 0
+  pub event-taken : (code now : ℕ) (a : LogReported) → length (d .logs) ≡ 5 → code ≡ 0 → now ≡ device-time (d .clock) time → report-code log (length bytes) ≡ 0
       → ReportDone (getD (d .logs) log blank) bytes now a
       → EventDone (event-report (state-of d) time log bytes) d
       (record {
-        code = 0;
+        code = code;
         stored = a .stored;
         device = record { volatile = d .volatile; persistent = d .persistent; clock = d .clock; policy = d .policy; logs = set (d .logs) log (a .log); poison = d .poison };
       })
   unfolding event-report
-  event-taken now a five t z done =
+  event-taken code now a five none t z done =
       let r = event-report-taken (d .logs) log bytes (device-time (d .clock) time) a z (subst (λ (x : ℕ). ReportDone (getD (d .logs) log blank) bytes x a) t done) in
       record {
-        code = sym (ap (λ (x : ReportOutcome). x .code) r);
+        code = none ∙ sym (ap (λ (x : ReportOutcome). x .code) r);
         stored = sym (ap (λ (x : ReportOutcome). x .stored) r);
         next = sym (ap (λ (x : ReportOutcome). with-logs (state-of d) (x .logs)) r);
-        refused = λ g. absurd (g refl);
+        refused = λ g. absurd (g none);
         valid = valid-device d _ _ _ _ v (valid-set (d .logs) log (a .log) five (report-code-zero log (length bytes) z .1) (v .logs) (done .valid)) (v .poison);
       }
 
@@ -133,23 +133,23 @@ module _ (d : Device) (time address n kind : ℕ) (v : ValidDevice d) where
       subst (λ (x : MediaOutcome). MediaDone x d (record { code = code; stored = 0; dropped = 0; device = d })) (sym (simp (sym e, ne-eqb _ _ f)))
       (record { code = refl; stored = refl; dropped = refl; next = refl; refused = λ g. refl; valid = v })
 
-  pub media-taken : (now : ℕ) (a : ListReported) → now ≡ device-time (d .clock) time → media-code (lines-of (state-of d)) address n kind ≡ 0
+  pub media-taken : (code now : ℕ) (a : ListReported) → code ≡ 0 → now ≡ device-time (d .clock) time → media-code (lines-of (state-of d)) address n kind ≡ 0
       → R.Reports (d .poison) (line-of address) n kind now a
       → MediaDone (media-report (state-of d) time address n kind) d
       (record {
-        code = 0;
+        code = code;
         stored = a .stored;
         dropped = a .dropped;
         device = record { volatile = d .volatile; persistent = d .persistent; clock = d .clock; policy = d .policy; logs = d .logs; poison = a .list };
       })
   unfolding media-report
-  media-taken now a t z done =
+  media-taken code now a none t z done =
       record {
-        code = sym (ap (λ (x : MediaOutcome). x .code) taken);
+        code = none ∙ sym (ap (λ (x : MediaOutcome). x .code) taken);
         stored = done .stored ∙ sym (ap (λ (x : MediaOutcome). x .stored) taken);
         dropped = done .dropped ∙ sym (ap (λ (x : MediaOutcome). x .dropped) taken);
         next = ap (with-poison (state-of d)) (done .state ∙ ap (R.after-report (state-of d .poison) (line-of address) n kind) t) ∙ sym (ap (λ (x : MediaOutcome). x .next) taken);
-        refused = λ g. absurd (g refl);
+        refused = λ g. absurd (g none);
         valid = valid-device d _ _ _ _ v (v .logs) (done .valid _ (v .poison) (media-zero (lines-of (state-of d)) address n kind z .1));
       }
     where

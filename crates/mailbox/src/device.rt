@@ -103,87 +103,82 @@ impl Device {
     {
         let mut code = admission::admitted(opcode, payload.len(), reply.len());
         let mut length: usize = 0;
-        if code != 0 {
-            return Answer {
-                code,
-                length,
-                device: self,
-            };
-        }
-        let lines = lines_of(self.volatile, self.persistent);
-        let clock = self.clock;
-        match opcode {
-            0x0100 => {
-                let k = payload[0];
-                code = get::get_code(k);
-                if code == 0 {
-                    let i = k as usize;
-                    let log = self.logs[i];
-                    length = log.get(15, reply);
+        if code == 0 {
+            let lines = lines_of(self.volatile, self.persistent);
+            let clock = self.clock;
+            match opcode {
+                0x0100 => {
+                    let k = payload[0];
+                    code = get::get_code(k);
+                    if code == 0 {
+                        let i = k as usize;
+                        let log = self.logs[i];
+                        length = log.get(15, reply);
+                    }
                 }
-            }
-            0x0101 => {
-                code = clear::clear_code(payload);
-                if code == 0 {
-                    let k = payload[0] as usize;
-                    let log = self.logs[k];
-                    let cleared = log.clear(payload);
-                    let next = cleared.log;
-                    self.logs[k] = next;
-                    code = cleared.code;
+                0x0101 => {
+                    code = clear::clear_code(payload);
+                    if code == 0 {
+                        let k = payload[0] as usize;
+                        let log = self.logs[k];
+                        let cleared = log.clear(payload);
+                        let next = cleared.log;
+                        self.logs[k] = next;
+                        code = cleared.code;
+                    }
                 }
-            }
-            0x0102 => {
-                let done = policy::get(&self.policy, reply);
-                length = done.length;
-            }
-            0x0103 => {
-                let settings = policy::set(self.policy[4], payload);
-                self.policy = settings;
-            }
-            0x0300 => {
-                let done = clock.get_timestamp(time, reply);
-                length = done.length;
-            }
-            0x0301 => {
-                let next = clock::set_timestamp(payload, time);
-                self.clock = next;
-            }
-            0x0400 => {
-                let done = effects_log::get_supported_logs(reply);
-                length = done.length;
-            }
-            0x0401 => {
-                let done = effects_log::get_log(payload, reply);
-                code = done.code;
-                length = done.length;
-            }
-            0x4000 => {
-                let done = identity::identify(self.volatile, self.persistent, reply);
-                length = done.length;
-            }
-            0x4300 => {
-                let list = self.poison;
-                let done = poison_commands::get(list, lines, payload, reply);
-                code = done.code;
-                length = done.length;
-            }
-            0x4301 => {
-                let list = self.poison;
-                let done = poison_commands::inject(list, lines, payload);
-                let next = done.list;
-                self.poison = next;
-                code = done.code;
-            }
-            0x4302 => {
-                let list = self.poison;
-                let done = poison_commands::clear(list, lines, payload, clock.time(time));
-                let next = done.list;
-                self.poison = next;
-                code = done.code;
-            }
-            _ => {
-                code = 3;
+                0x0102 => {
+                    let done = policy::get(&self.policy, reply);
+                    length = done.length;
+                }
+                0x0103 => {
+                    let settings = policy::set(self.policy[4], payload);
+                    self.policy = settings;
+                }
+                0x0300 => {
+                    let done = clock.get_timestamp(time, reply);
+                    length = done.length;
+                }
+                0x0301 => {
+                    let next = clock::set_timestamp(payload, time);
+                    self.clock = next;
+                }
+                0x0400 => {
+                    let done = effects_log::get_supported_logs(reply);
+                    length = done.length;
+                }
+                0x0401 => {
+                    let done = effects_log::get_log(payload, reply);
+                    code = done.code;
+                    length = done.length;
+                }
+                0x4000 => {
+                    let done = identity::identify(self.volatile, self.persistent, reply);
+                    length = done.length;
+                }
+                0x4300 => {
+                    let list = self.poison;
+                    let done = poison_commands::get(list, lines, payload, reply);
+                    code = done.code;
+                    length = done.length;
+                }
+                0x4301 => {
+                    let list = self.poison;
+                    let done = poison_commands::inject(list, lines, payload);
+                    let next = done.list;
+                    self.poison = next;
+                    code = done.code;
+                }
+                0x4302 => {
+                    let list = self.poison;
+                    let done = poison_commands::clear(list, lines, payload, clock.time(time));
+                    let next = done.list;
+                    self.poison = next;
+                    code = done.code;
+                }
+                _ => {
+                    code = 3;
+                }
             }
         }
         Answer {

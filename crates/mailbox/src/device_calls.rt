@@ -1,4 +1,5 @@
 // The device-side calls (document 01, "What the device does"): event report, media report, line test, event status, damage total.
+// A report makes its answer once, after the change: with a second answer for a refusal, parts that do not change would be copied too.
 use crate::device::Device;
 use crate::device::lines_of;
 use crate::poison_commands;
@@ -63,23 +64,20 @@ impl Device {
         ensures { λ r. ⌜ EventDone (event-report (state-of self) time log (now (event .entry))) self r ⌝ }
     {
         let code = report::report_code(log, event.len());
-        if code != 0 {
-            return EventAnswer {
-                code,
-                stored: false,
-                device: self,
-            };
+        let mut stored = false;
+        if code == 0 {
+            let clock = self.clock;
+            let now = clock.time(time);
+            let k = log as usize;
+            let held = self.logs[k];
+            let reported = held.report(event, now);
+            let next = reported.log;
+            self.logs[k] = next;
+            stored = reported.stored;
         }
-        let clock = self.clock;
-        let now = clock.time(time);
-        let k = log as usize;
-        let held = self.logs[k];
-        let reported = held.report(event, now);
-        let next = reported.log;
-        self.logs[k] = next;
         EventAnswer {
-            code: 0,
-            stored: reported.stored,
+            code,
+            stored,
             device: self,
         }
     }
@@ -91,24 +89,22 @@ impl Device {
     {
         let all = lines_of(self.volatile, self.persistent);
         let code = check_report(all, address, lines, kind);
-        if code != 0 {
-            return MediaAnswer {
-                code,
-                stored: 0,
-                dropped: 0,
-                device: self,
-            };
+        let mut stored: u32 = 0;
+        let mut dropped: u32 = 0;
+        if code == 0 {
+            let clock = self.clock;
+            let now = clock.time(time);
+            let list = self.poison;
+            let reported = list.report((address / 64) as u32, lines, kind, now);
+            let next = reported.list;
+            self.poison = next;
+            stored = reported.stored;
+            dropped = reported.dropped;
         }
-        let clock = self.clock;
-        let now = clock.time(time);
-        let list = self.poison;
-        let reported = list.report((address / 64) as u32, lines, kind, now);
-        let next = reported.list;
-        self.poison = next;
         MediaAnswer {
-            code: 0,
-            stored: reported.stored,
-            dropped: reported.dropped,
+            code,
+            stored,
+            dropped,
             device: self,
         }
     }

@@ -15,6 +15,7 @@ pub mod Extents
 pub mod Progress
 pub mod Laws
 pub mod Validity
+pub mod Injecting
 pub mod Cutting
 pub mod Reporting
 pub mod Sharing

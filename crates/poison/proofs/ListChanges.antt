@@ -6,7 +6,7 @@ use mathlib.Core.List.{List, [], _∷_, _++_}
 use Prim.Native.Nat.{ℕ, zero, suc, _+_, _-_, _≤_, _<_}
 use native.Mathlib.Omega.{arith}
 use lib.Dec.{ltb}
-use lib.ListN.{length, take, drop, getD, set, length-map}
+use lib.ListN.{length, take, drop, getD, set, length-map, length-set}
 use lib.Seq.{set-getD, take-set-lt, drop-set-lt}
 use Rattle.poison.specs.declared.list.PoisonList.{PoisonList}
 use Rattle.poison.specs.Runs.{Run, run, total}
@@ -142,6 +142,18 @@ module _ (l : PoisonList) (sized : Sized l) where
               kinds = rw c refl;
             };
       }
+
+-- ---- another length at a place, the start and the type as they were
+abbrev pub shortened : PoisonList → ℕ → ℕ → PoisonList
+shortened l at lines =
+    record { starts = l .starts; lengths = set (l .lengths) at lines; kinds = l .kinds; count = l .count; overflow = l .overflow; «overflow_time» = l .«overflow_time» }
+
+module _ (l : PoisonList) (sized : Sized l) (at lines : ℕ) where
+  pub shortened-sized : Sized (shortened l at lines)
+  shortened-sized = record { starts = sized .starts; lengths = length-set (l .lengths) at lines ∙ sized .lengths; kinds = sized .kinds }
+
+  pub shortened-at : at < l .count → ReplacedAt l at (getD (l .starts) at 0) lines (getD (l .kinds) at 0) (shortened l at lines)
+  shortened-at h = replaced-at l sized (shortened l at lines) at (getD (l .starts) at 0) lines h (sym (set-getD (l .starts) at 0)) refl refl refl refl refl
 
 -- ---- the sum of the lengths
 pub sum-next : (ns : List ℕ) (i : ℕ) → sum-of (take (suc i) ns) ≡ sum-of (take i ns) + getD ns i 0

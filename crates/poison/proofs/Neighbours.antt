@@ -15,7 +15,7 @@ use Rattle.poison.specs.Runs.{Run, run, end, Chain}
 use Rattle.poison.specs.Shift.{zip}
 use Rattle.poison.specs.State.{Entry, shape, shapes, entry, capacity, runs-in, entries-in, entries-of, Typed, ValidRuns, ValidList}
 use Rattle.poison.specs.Search.{cover-at, place-of}
-use Rattle.poison.specs.Range.{shared-start, shared-end, shares, cut-to, sharing, records-bytes, first-past, Cuttable, Writable, Wrote}
+use Rattle.poison.specs.Range.{kept, shared-start, shared-end, shares, cut-to, sharing, records-bytes, first-past, Cuttable, Writable, Wrote}
 use Rattle.poison.proofs.Moves.{nought, drop-take}
 use Rattle.poison.proofs.Counts.{Place, low, mid, high, place, below-run, chain-le}
 use Rattle.poison.proofs.Sharing.{none-in-none}
@@ -32,7 +32,7 @@ pub record Neighbours (a n : ℕ) (es : List Entry) (f l : ℕ) : Type 0 where
 module _ (a n : ℕ) where
   -- entries past the range share no line with it
   none-past : (lo hi : ℕ) (es : List Entry) → Chain lo hi (shapes es) → a + n ≤ lo → sharing a n es ≡ []
-  unfolding sharing
+  unfolding sharing kept
   none-past lo hi [] c h = refl
   none-past lo hi (e ∷ es) c h = rw (le-ltb (shared-start a e) (shared-end a n e) (omega arith)) (none-past (end (shape e)) hi es (c .2) (omega arith))
 
@@ -58,7 +58,7 @@ module _ (a n : ℕ) where
   -- the entries of a list in order that share a line with the range are neighbours: from the first that ends past the range's first
   -- line up to the first that starts past its last line, z
   pub neighbours : (z lo hi : ℕ) (es : List Entry) → Chain lo hi (shapes es) → suc z ≡ a + n → 0 < n → Neighbours a n es (first-past (shapes es) a) (place-of (shapes es) z)
-  unfolding sharing
+  unfolding sharing kept
   neighbours z lo hi [] c last some = record { ordered = omega arith; within = omega arith; are = refl; share = λ i p q. absurd (omega arith) }
   neighbours z lo hi (e ∷ es) c last some = go (lies e) (neighbours z (end (shape e)) hi es (c .2) last some)
     where

@@ -9,7 +9,7 @@ use native.Mathlib.Omega.{arith}
 use borrow.Author.Tests.{lt-ltb, le-ltb, ltb-true}
 use Rattle.poison.specs.Runs.{run, end, in-run, Chain}
 use Rattle.poison.specs.State.{Entry, shape, shapes, covers, kind-at}
-use Rattle.poison.specs.Range.{shared-start, shared-end, shares, cut-to, sharing}
+use Rattle.poison.specs.Range.{kept, shared-start, shared-end, shares, cut-to, sharing}
 use Rattle.poison.proofs.Counts.{Place, low, mid, high, place, below-run, past-run, inside-run}
 
 module _ (a n : ℕ) where
@@ -61,7 +61,7 @@ module _ (a n : ℕ) where
   -- ---- what the records say
   -- they cover exactly the covered lines of the range
   pub covers-sharing : (es : List Entry) (k : ℕ) → covers (sharing a n es) k ≡ (covers es k && in-run (run a n) k)
-  unfolding sharing
+  unfolding sharing kept
   covers-sharing [] k = refl
   covers-sharing (e ∷ es) k = go (shares a n e) refl (covers-sharing es k) ∙ sym (and-or-distrib-right (in-run (shape e) k) (covers es k) (in-run (run a n) k))
     where
@@ -71,7 +71,7 @@ module _ (a n : ℕ) where
 
   -- with the type of the entry over the line
   pub kind-sharing : (es : List Entry) (k : ℕ) → in-run (run a n) k ≡ true → kind-at (sharing a n es) k ≡ kind-at es k
-  unfolding sharing
+  unfolding sharing kept
   kind-sharing [] k p = refl
   kind-sharing (e ∷ es) k p = go (shares a n e) refl (kind-sharing es k p)
     where
@@ -84,7 +84,7 @@ module _ (a n : ℕ) where
 
   -- the same from any line b of the range on, up to which no entry has a line
   chain-from : (b lo hi : ℕ) (es : List Entry) → Chain lo hi (shapes es) → b ≤ a + n → b ≤ max a lo → Chain b (a + n) (shapes (sharing a n es))
-  unfolding sharing
+  unfolding sharing kept
   chain-from b lo hi [] c p q = p
   chain-from b lo hi (e ∷ es) c p q = go (shares a n e) refl (λ d u w. chain-from d (end (shape e)) hi es (c .2) u w)
     where
@@ -100,6 +100,6 @@ module _ (a n : ℕ) where
 
 -- a range of 0 lines has none
 pub none-in-none : (a : ℕ) (es : List Entry) → sharing a 0 es ≡ []
-unfolding sharing
+unfolding sharing kept
 none-in-none a [] = refl
 none-in-none a (e ∷ es) = rw (le-ltb (shared-start a e) (shared-end a 0 e) (omega arith)) (none-in-none a es)

@@ -1,4 +1,5 @@
--- What the list's own small changes in memory ensure, by the view: an entry put at a place, put in its place, taken away, replaced; the flag set.
+-- What small changes of the list in memory come to, by the view: an entry put at a place, put in its place, taken away or replaced (as `clear` does in
+-- place); the flag set.
 use mathlib.Core.Path.{_≡_}
 use mathlib.Core.Bool.{true, cond}
 use mathlib.Core.List.{List, _∷_, _++_}

@@ -27,10 +27,15 @@ shares a n e = ltb (shared-start a e) (shared-end a n e)
 abbrev pub cut-to : ℕ → ℕ → Entry → Entry
 cut-to a n e = record { start = shared-start a e; lines = shared-end a n e - shared-start a e; kind = e .kind }
 
+-- an entry before others, if it is kept
+unfoldable pub kept : Bool → Entry → List Entry → List Entry
+kept b e es = cond b (e ∷ es) es
+
 -- the entries that share a line with the n lines from a on, each cut to them, in order
 unfoldable pub sharing : ℕ → ℕ → List Entry → List Entry
+unfolding kept
 sharing a n [] = []
-sharing a n (e ∷ es) = cond (shares a n e) (cut-to a n e ∷ sharing a n es) (sharing a n es)
+sharing a n (e ∷ es) = kept (shares a n e) (cut-to a n e) (sharing a n es)
 
 -- a record of the reply: the address (64 bytes a line) with the type in bits 0 to 2, the length in lines, zero
 unfoldable pub record-bytes : Entry → List ℕ

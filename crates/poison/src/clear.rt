@@ -1,14 +1,15 @@
 // Clear Poison (document 01, "Poison list"), of a line of the device: its caller has checked the address.
 use crate::list::PoisonList;
 use crate::search;
+use crate::shift;
 ghost use Prim.Native.Nat.{_<_};
 ghost use Rattle.poison.specs.State.{capacity, ValidList};
 ghost use Rattle.poison.specs.Clear.{Clears};
 
 impl PoisonList {
     // Clear Poison of a line, at a device time: the entry over it is replaced by the part before and the part after, each if not empty. With
-    // 256 held and both parts left, the part after is dropped.
-    pub fn clear(self, line: u32, time: u64) -> Self
+    // 256 held and both parts left, the part after is dropped. The arrays are changed in place: a list handed on would be a copy of 2.3 KB.
+    pub fn clear(mut self, line: u32, time: u64) -> Self
         requires { ⌜ ValidList capacity self × (line < capacity) ⌝ }
         ensures { λ r. ⌜ Clears self line time r ⌝ }
     {
@@ -23,17 +24,28 @@ impl PoisonList {
         let back = self.lengths[at] - front - 1;
         if front == 0 {
             if back == 0 {
-                return self.remove_at(at);
+                let last = n - 1;
+                shift::pull_number(&mut self.starts, at, last);
+                shift::pull_number(&mut self.lengths, at, last);
+                shift::pull_kind(&mut self.kinds, at, last);
+                self.count = last;
+                return self;
             }
-            return self.replace_at(at, line + 1, back);
+            self.starts[at] = line + 1;
+            self.lengths[at] = back;
+            return self;
         }
-        let kept = self.replace_at(at, start, front);
+        self.lengths[at] = front;
         if back == 0 {
-            return kept;
+            return self;
         }
         if n == 256 {
-            return kept.with_overflow(time);
+            return self.with_overflow(time);
         }
-        kept.insert_at(at + 1, line + 1, back, kind)
+        shift::put_number(&mut self.starts, at + 1, n, line + 1);
+        shift::put_number(&mut self.lengths, at + 1, n, back);
+        shift::put_kind(&mut self.kinds, at + 1, n, kind);
+        self.count = n + 1;
+        self
     }
 }

@@ -1,6 +1,7 @@
 // Inject Poison (document 01, "Poison list"), at a line of the device: its caller has checked the address.
 use crate::list::PoisonList;
 use crate::search;
+use crate::shift;
 ghost use Prim.Native.Nat.{_<_};
 ghost use Rattle.poison.specs.State.{capacity, ValidList};
 ghost use Rattle.poison.specs.Inject.{Injects};
@@ -12,8 +13,8 @@ pub struct Injected {
 }
 
 impl PoisonList {
-    // Inject Poison at a line.
-    pub fn inject(self, line: u32) -> Injected
+    // Inject Poison at a line. The arrays are changed in place: a list handed on would be a copy of 2.3 KB.
+    pub fn inject(mut self, line: u32) -> Injected
         requires { ⌜ ValidList capacity self × (line < capacity) ⌝ }
         ensures { λ r. ⌜ Injects self line r ⌝ }
     {
@@ -31,7 +32,14 @@ impl PoisonList {
                 done: false,
             };
         }
-        let list = self.insert(line, 1, 3);
-        Injected { list, done: true }
+        let place = search::place(&self.starts, &self.lengths, n, line);
+        shift::put_number(&mut self.starts, place, n, line);
+        shift::put_number(&mut self.lengths, place, n, 1);
+        shift::put_kind(&mut self.kinds, place, n, 3);
+        self.count = n + 1;
+        Injected {
+            list: self,
+            done: true,
+        }
     }
 }

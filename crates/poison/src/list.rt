@@ -3,10 +3,10 @@
 use crate::search;
 use crate::shift;
 ghost use mathlib.Core.Path.{_≡_};
-ghost use Prim.Native.Nat.{_+_, _-_, _≤_, _<_};
-ghost use lib.ListN.{take, getD};
+ghost use Prim.Native.Nat.{_≤_, _<_};
+ghost use lib.ListN.{take};
 ghost use Rattle.poison.specs.State.{state-of, capacity, ValidList, Made, damage-total, sum-of};
-ghost use Rattle.poison.specs.List.{InsertedAt, Inserted, RemovedAt, ReplacedAt, Flagged};
+ghost use Rattle.poison.specs.List.{InsertedAt, Inserted, Flagged};
 
 pub struct PoisonList {
     pub starts: [u32; 256],
@@ -76,29 +76,6 @@ impl PoisonList {
         let n = self.count;
         let at = search::place(&self.starts, &self.lengths, n, start);
         self.insert_at(at, start, lines, kind)
-    }
-
-    // The list without its entry at place `at`.
-    pub fn remove_at(mut self, at: usize) -> Self
-        requires { ⌜ (at < self .count) × (self .count ≤ 256) ⌝ }
-        ensures { λ r. ⌜ RemovedAt self at r ⌝ }
-    {
-        let last = self.count - 1;
-        shift::pull_number(&mut self.starts, at, last);
-        shift::pull_number(&mut self.lengths, at, last);
-        shift::pull_kind(&mut self.kinds, at, last);
-        self.count = last;
-        self
-    }
-
-    // The list with another start and length at place `at`, of the same type.
-    pub fn replace_at(mut self, at: usize, start: u32, lines: u32) -> Self
-        requires { ⌜ (at < self .count) × (self .count ≤ 256) ⌝ }
-        ensures { λ r. ⌜ ReplacedAt self at start lines (getD (self .kinds) at 0) r ⌝ }
-    {
-        self.starts[at] = start;
-        self.lengths[at] = lines;
-        self
     }
 
     // The list after a drop: the first drop sets the overflow time.

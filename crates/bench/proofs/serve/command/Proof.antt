@@ -1,4 +1,5 @@
--- `bench::serve::command` serves its record: the reply that the device wrote is no longer than the buffer. Assumes nothing.
+-- `bench::serve::command` gives its record to the device: the reply that the device wrote is no longer than the buffer. Assumes nothing.
+use Prim.Native.Nat.{_-_}
 use native.Mathlib.Omega.{arith}
 use borrow.Author.Needs.{needs}
 use Rattle.bench.proofs.Laws.{reply-fits}
@@ -26,20 +27,14 @@ part-command-end c = search needs
 command-requires : tie.Need-command-requires
 command-requires c κs = search needs
 
-put-command-requires : tie.Need-put-command-requires
-put-command-requires c κs =
-    let told = c .before .before .before .before .command .ensures in
-    let short = reply-fits _ _ _ (told .bytes) (search needs) in
-    (search needs, search needs, omega (arith, told .size), search needs)
-
 same-length : tie.Need-same-length
 same-length c = search needs
 
-same-length-2 : tie.Need-same-length-2
-same-length-2 c = search needs
-
 returns : tie.Need-returns
-returns c = search needs
+returns c =
+    let told = c .before .before .command .ensures in
+    let short = reply-fits _ _ _ (told .bytes) (search needs) in
+    record { valid = told .valid; fits = omega (arith, told .size, short, c .before .before .before .before .before .before .before .before .before .pre .2) }
 
 pub command-spec : {M : Type 1} → statement M
 command-spec =
@@ -52,7 +47,5 @@ command-spec =
     part-command-start
     part-command-end
     command-requires
-    put-command-requires
     same-length
-    same-length-2
     returns)

@@ -1,12 +1,12 @@
 -- `bench::serve::serve` is safe and ends. The invariant: the three buffers keep their lengths, the device is valid, and the stream's places lie in
--- the buffers. The measure is what is left of the offsets. Assumes nothing.
+-- the buffers. The measure is what is left of the offsets. In each arm the record has the bytes that its mark says. Assumes nothing.
 use mathlib.Core.Path.{_≡_}
 use Prim.Native.Nat.{_-_}
 use native.Mathlib.Omega.{arith}
 use borrow.Author.Needs.{needs}
+use lib.ListN.{length}
 use Rattle.mailbox.specs.State.{ValidDevice}
 use Rattle.bench.specs.Stream.{Fits}
-use lib.ListN.{length}
 use Rattle.bench.proofs.serve.serve.Statement.{statement}
 use Rattle.bench.proofs.serve.serve.Tie as tie
 
@@ -47,37 +47,195 @@ add-to c = search needs
 add-offset : tie.Need-add-offset Inv-loop μ-loop
 add-offset c = search needs
 
-sub-step : tie.Need-sub-step Inv-loop μ-loop
-sub-step c = search needs
+enum-told : tie.Need-enum-told Inv-loop μ-loop
+enum-told c = search needs
 
-part-step-start : tie.Need-part-step-start Inv-loop μ-loop
-part-step-start c = search needs
+sub-command : tie.Need-sub-command Inv-loop μ-loop
+sub-command c = search needs
 
-part-step-end : tie.Need-part-step-end Inv-loop μ-loop
-part-step-end c = search needs
+part-command-start : tie.Need-part-command-start Inv-loop μ-loop
+part-command-start c = search needs
 
-step-requires : tie.Need-step-requires Inv-loop μ-loop
-step-requires c κs = (c .before .before .before .before .before .before .before .before .before .before .before .before .before .before .before .before .loop .inv .3, search needs, search needs, search needs, search needs)
+part-command-end : tie.Need-part-command-end Inv-loop μ-loop
+part-command-end c = search needs
+
+command-requires : tie.Need-command-requires Inv-loop μ-loop
+command-requires c κs =
+    let k = c .before .before .before .before .before in
+    let l = k .before .before .before .before .before .before .before .before .before .before .before .before .loop in
+    let found = k .before .before .before .before .before .before .before .next in
+    let enough = rw (c .before .before .before .enum-told .given .1) at (found .ensures .enough) in
+    (l .inv .3, search needs, omega (arith, l .inv .2))
+
+put-command-requires : tie.Need-put-command-requires Inv-loop μ-loop
+put-command-requires c κs =
+    let k = c .before .before .before .before .before .before .before .before .before .before .before in
+    let l = k .before .before .before .before .before .before .before .before .before .before .before .before .loop in
+    let answered = c .before .before .before .before .before .command in
+    (k .before .before .make-room .ensures, omega (arith, l .inv .1), omega (arith, answered .ensures .fits, answered .kept, l .inv .2), omega (arith, answered .kept, l .inv .2))
+
+enum-told-2 : tie.Need-enum-told-2 Inv-loop μ-loop
+enum-told-2 c = search needs
+
+sub-event : tie.Need-sub-event Inv-loop μ-loop
+sub-event c = search needs
+
+part-event-start : tie.Need-part-event-start Inv-loop μ-loop
+part-event-start c = search needs
+
+part-event-end : tie.Need-part-event-end Inv-loop μ-loop
+part-event-end c = search needs
+
+event-requires : tie.Need-event-requires Inv-loop μ-loop
+event-requires c κs =
+    let k = c .before .before .before .before in
+    let l = k .before .before .before .before .before .before .before .before .before .before .before .before .loop in
+    let found = k .before .before .before .before .before .before .before .next in
+    let enough = rw (c .before .before .enum-told2 .given .1) at (found .ensures .enough) in
+    (l .inv .3, search needs)
+
+put-event-requires : tie.Need-put-event-requires Inv-loop μ-loop
+put-event-requires c κs =
+    let k = c .before .before .before .before .before .before .before in
+    let l = k .before .before .before .before .before .before .before .before .before .before .before .before .loop in
+    (k .before .before .make-room .ensures, omega (arith, l .inv .1))
+
+enum-told-3 : tie.Need-enum-told-3 Inv-loop μ-loop
+enum-told-3 c = search needs
+
+sub-media : tie.Need-sub-media Inv-loop μ-loop
+sub-media c = search needs
+
+part-media-start : tie.Need-part-media-start Inv-loop μ-loop
+part-media-start c = search needs
+
+part-media-end : tie.Need-part-media-end Inv-loop μ-loop
+part-media-end c = search needs
+
+media-requires : tie.Need-media-requires Inv-loop μ-loop
+media-requires c κs =
+    let k = c .before .before .before .before in
+    let l = k .before .before .before .before .before .before .before .before .before .before .before .before .loop in
+    let found = k .before .before .before .before .before .before .before .next in
+    let enough = rw (c .before .before .enum-told3 .given .1) at (found .ensures .enough) in
+    (l .inv .3, search needs)
+
+cast-put-pair : tie.Need-cast-put-pair Inv-loop μ-loop
+cast-put-pair c = search needs
+
+cast-put-pair-2 : tie.Need-cast-put-pair-2 Inv-loop μ-loop
+cast-put-pair-2 c = search needs
+
+put-pair-requires : tie.Need-put-pair-requires Inv-loop μ-loop
+put-pair-requires c κs =
+    let k = c .before .before .before .before .before .before .before .before .before in
+    let l = k .before .before .before .before .before .before .before .before .before .before .before .before .loop in
+    (k .before .before .make-room .ensures, omega (arith, l .inv .1))
+
+enum-told-4 : tie.Need-enum-told-4 Inv-loop μ-loop
+enum-told-4 c = search needs
+
+sub-line : tie.Need-sub-line Inv-loop μ-loop
+sub-line c = search needs
+
+part-line-start : tie.Need-part-line-start Inv-loop μ-loop
+part-line-start c = search needs
+
+part-line-end : tie.Need-part-line-end Inv-loop μ-loop
+part-line-end c = search needs
+
+line-requires : tie.Need-line-requires Inv-loop μ-loop
+line-requires c κs =
+    let k = c .before .before .before .before .before in
+    let l = k .before .before .before .before .before .before .before .before .before .before .before .before .loop in
+    let found = k .before .before .before .before .before .before .before .next in
+    let enough = rw (c .before .before .before .enum-told4 .given .1) at (found .ensures .enough) in
+    (l .inv .3, search needs, k .before .before .make-room .ensures, omega (arith, l .inv .1))
 
 loop-less : tie.Need-loop-less Inv-loop μ-loop
 loop-less c =
-    let chosen = c .before .before .before .before .before .before .before .before .before .before .before in
-    let before-next = chosen .before .before .before .before .before .before in
-    omega (arith, chosen .if2 .left, before-next .next .ensures .place, before-next .before .before .before .if1 .taken)
+    let k = c .before .before .before .before .before .before .before .before .before .before .before .before .before .before in
+    omega (arith, k .before .if2 .left, k .before .before .before .before .before .before .before .next .ensures .place, k .before .before .before .before .before .before .before .before .before .before .if1 .taken)
 
 loop-again : tie.Need-loop-again Inv-loop μ-loop
 loop-again c =
-    let stepped = c .before .before .before .before .before in
-    let found = c .before .before .before .before .before .before .before .before .before .before .before .before .before .before .before .before .before .next in
-    let l = c .before .before .before .before .before .before .before .before .before .before .before .before .before .before .before .before .before .before .before .before .before .before .loop in
-    let whole = found .ensures in
-    let inside = whole .inside in
-    let fits = whole .fits in (
+    let k = c .before .before .before .before .before .before .before .before .before .before .before .before .before .before in
+    let l = k .before .before .before .before .before .before .before .before .before .before .before .before .loop in
+    let found = k .before .before .before .before .before .before .before .next in
+    let answered = c .before .before .before .before .before .before .before .before .command in (
       omega (arith, found .kept, l .inv .0),
-      omega (arith, stepped .step .kept, l .inv .1),
-      omega (arith, stepped .step .kept, l .inv .2),
-      stepped .step .ensures .valid,
-      record { order = inside; input = fits .input; output = stepped .step .ensures .room },
+      omega (arith, c .before .before .put-command .kept, l .inv .1),
+      omega (arith, answered .kept, l .inv .2),
+      answered .ensures .valid,
+      record { order = found .ensures .inside; input = found .ensures .fits .input; output = c .before .before .put-command .ensures },
+    )
+
+loop-less-2 : tie.Need-loop-less-2 Inv-loop μ-loop
+loop-less-2 c =
+    let k = c .before .before .before .before .before .before .before .before .before .before in
+    omega (arith, k .before .if2 .left, k .before .before .before .before .before .before .before .next .ensures .place, k .before .before .before .before .before .before .before .before .before .before .if1 .taken)
+
+loop-again-2 : tie.Need-loop-again-2 Inv-loop μ-loop
+loop-again-2 c =
+    let k = c .before .before .before .before .before .before .before .before .before .before in
+    let l = k .before .before .before .before .before .before .before .before .before .before .before .before .loop in
+    let found = k .before .before .before .before .before .before .before .next in (
+      omega (arith, found .kept, l .inv .0),
+      omega (arith, c .before .before .put-event .kept, l .inv .1),
+      omega (arith, l .inv .2),
+      c .before .before .before .before .before .event .ensures,
+      record { order = found .ensures .inside; input = found .ensures .fits .input; output = c .before .before .put-event .ensures },
+    )
+
+loop-less-3 : tie.Need-loop-less-3 Inv-loop μ-loop
+loop-less-3 c =
+    let k = c .before .before .before .before .before .before .before .before .before .before .before .before in
+    omega (arith, k .before .if2 .left, k .before .before .before .before .before .before .before .next .ensures .place, k .before .before .before .before .before .before .before .before .before .before .if1 .taken)
+
+loop-again-3 : tie.Need-loop-again-3 Inv-loop μ-loop
+loop-again-3 c =
+    let k = c .before .before .before .before .before .before .before .before .before .before .before .before in
+    let l = k .before .before .before .before .before .before .before .before .before .before .before .before .loop in
+    let found = k .before .before .before .before .before .before .before .next in (
+      omega (arith, found .kept, l .inv .0),
+      omega (arith, c .before .before .put-pair .kept, l .inv .1),
+      omega (arith, l .inv .2),
+      c .before .before .before .before .before .before .before .media .ensures,
+      record { order = found .ensures .inside; input = found .ensures .fits .input; output = c .before .before .put-pair .ensures },
+    )
+
+loop-less-4 : tie.Need-loop-less-4 Inv-loop μ-loop
+loop-less-4 c =
+    let k = c .before .before .before .before .before .before .before .before in
+    omega (arith, k .before .if2 .left, k .before .before .before .before .before .before .before .next .ensures .place, k .before .before .before .before .before .before .before .before .before .before .if1 .taken)
+
+loop-again-4 : tie.Need-loop-again-4 Inv-loop μ-loop
+loop-again-4 c =
+    let k = c .before .before .before .before .before .before .before .before in
+    let l = k .before .before .before .before .before .before .before .before .before .before .before .before .loop in
+    let found = k .before .before .before .before .before .before .before .next in (
+      omega (arith, found .kept, l .inv .0),
+      omega (arith, c .before .before .line .kept, l .inv .1),
+      omega (arith, l .inv .2),
+      l .inv .3,
+      record { order = found .ensures .inside; input = found .ensures .fits .input; output = c .before .before .line .ensures },
+    )
+
+loop-less-5 : tie.Need-loop-less-5 Inv-loop μ-loop
+loop-less-5 c =
+    let k = c .before in
+    omega (arith, k .before .if2 .left, k .before .before .before .before .before .before .before .next .ensures .place, k .before .before .before .before .before .before .before .before .before .before .if1 .taken)
+
+loop-again-5 : tie.Need-loop-again-5 Inv-loop μ-loop
+loop-again-5 c =
+    let k = c .before in
+    let l = k .before .before .before .before .before .before .before .before .before .before .before .before .loop in
+    let found = k .before .before .before .before .before .before .before .next in (
+      omega (arith, found .kept, l .inv .0),
+      omega (arith, l .inv .1),
+      omega (arith, l .inv .2),
+      l .inv .3,
+      record { order = found .ensures .inside; input = found .ensures .fits .input; output = omega (arith, k .before .before .make-room .ensures) },
     )
 
 same-length-4 : tie.Need-same-length-4 Inv-loop μ-loop
@@ -108,12 +266,41 @@ serve-spec =
     returns
     add-to
     add-offset
-    sub-step
-    part-step-start
-    part-step-end
-    step-requires
+    enum-told
+    sub-command
+    part-command-start
+    part-command-end
+    command-requires
+    put-command-requires
+    enum-told-2
+    sub-event
+    part-event-start
+    part-event-end
+    event-requires
+    put-event-requires
+    enum-told-3
+    sub-media
+    part-media-start
+    part-media-end
+    media-requires
+    cast-put-pair
+    cast-put-pair-2
+    put-pair-requires
+    enum-told-4
+    sub-line
+    part-line-start
+    part-line-end
+    line-requires
     loop-less
     loop-again
+    loop-less-2
+    loop-again-2
+    loop-less-3
+    loop-again-3
+    loop-less-4
+    loop-again-4
+    loop-less-5
+    loop-again-5
     same-length-4
     same-length-5
     same-length-6

@@ -34,7 +34,7 @@ abbrev start : tie.After-clock → tie.Start
 start c = c .before .before .before .before .before .before
 
 zero : (c : tie.After-clock) → c .before .before .before .admitted .result ≡ 0
-zero c = c .before .before .if1 .left
+zero c = c .before .before .if1 .taken
 
 admitted : (c : tie.After-clock) → admission (start c .args .opcode) (length (start c .args .payload .now)) (length (start c .args .reply .now)) ≡ 0
 admitted c = sym (c .before .before .before .admitted .ensures) ∙ zero c
@@ -74,9 +74,6 @@ log-cleared c = clear-code-zero _ (clear-passed c) .1
 
 admitted-requires : tie.Need-admitted-requires
 admitted-requires c κs = search needs
-
-returns : tie.Need-returns
-returns c = refusal-answer _ _ _ _ _ _ (c .before .before .before .before .pre) (c .before .admitted .ensures) (c .if1 .taken)
 
 lines-of-requires : tie.Need-lines-of-requires
 lines-of-requires c κs = search needs
@@ -174,45 +171,45 @@ clear-requires-2 c κs =
 same-length : tie.Need-same-length
 same-length c = search needs
 
-returns-2 : tie.Need-returns-2
+returns : tie.Need-returns
 unfolding run-command
-returns-2 c =
+returns c =
     let k = c .before .before .before .before .before .before .before .before .before in
     answer-at _ _ _ _ _ 0x0100 (admitted k) (c .before .before .before .before .before .before .before .before .match .keys1)
     (get-events-replied _ _ (valid k) _ (c .before .before .before .before .before .if2 .taken) (get-passed (c .before .before .before .before .before)) (c .before .before .get .ensures))
 
-returns-3 : tie.Need-returns-3
+returns-2 : tie.Need-returns-2
 unfolding run-command
-returns-3 c =
+returns-2 c =
     let k = c .before .before .before .before in
     answer-at _ _ _ _ _ 0x0100 (admitted k) (c .before .before .before .match .keys1) (get-events-refused _ _ (valid k) _ (c .before .get-code .ensures) (c .if2 .left))
 
-returns-4 : tie.Need-returns-4
+returns-3 : tie.Need-returns-3
 unfolding run-command
-returns-4 c =
+returns-3 c =
     let k = c .before .before .before .before .before .before .before in
     answer-at _ _ _ _ _ 0x0101 (admitted k) (c .before .before .before .before .before .before .match .keys2)
     (clear-events-done _ _ (valid k) _ (five k) (clear-passed (c .before .before .before .before)) (c .before .clear .ensures))
 
-returns-5 : tie.Need-returns-5
+returns-4 : tie.Need-returns-4
 unfolding run-command
-returns-5 c =
+returns-4 c =
     let k = c .before .before .before in
     answer-at _ _ _ _ _ 0x0101 (admitted k) (c .before .before .match .keys2) (clear-events-refused _ _ (valid k) _ (c .before .clear-code .ensures) (c .if3 .left))
 
 same-length-2 : tie.Need-same-length-2
 same-length-2 c = search needs
 
-returns-6 : tie.Need-returns-6
+returns-5 : tie.Need-returns-5
 unfolding run-command get-policy
-returns-6 c =
+returns-5 c =
     let k = c .before .before .before .before .before .before .before in
     let e = c .before .before .get2 .ensures in
     answer-at _ _ _ _ _ 0x0102 (admitted k) (c .before .before .before .before .before .before .match .keys3) (read-answer (valid k) (zero k) (e .size) (e .bytes))
 
-returns-7 : tie.Need-returns-7
+returns-6 : tie.Need-returns-6
 unfolding run-command
-returns-7 c =
+returns-6 c =
     let k = c .before .before .before in
     let v = valid k in
     answer-at _ _ _ _ _ 0x0103 (admitted k) (c .before .before .match .keys4)
@@ -221,16 +218,16 @@ returns-7 c =
 same-length-3 : tie.Need-same-length-3
 same-length-3 c = search needs
 
-returns-8 : tie.Need-returns-8
+returns-7 : tie.Need-returns-7
 unfolding run-command get-timestamp
-returns-8 c =
+returns-7 c =
     let k = c .before .before .before .before .before in
     let e = c .before .before .get-timestamp .ensures in
     answer-at _ _ _ _ _ 0x0300 (admitted k) (c .before .before .before .before .match .keys5) (read-answer (valid k) (zero k) (e .size) (e .bytes))
 
-returns-9 : tie.Need-returns-9
+returns-8 : tie.Need-returns-8
 unfolding run-command
-returns-9 c =
+returns-8 c =
     let k = c .before .before in
     let v = valid k in
     answer-at _ _ _ _ _ 0x0301 (admitted k) (c .before .match .keys6)
@@ -239,9 +236,9 @@ returns-9 c =
 same-length-4 : tie.Need-same-length-4
 same-length-4 c = search needs
 
-returns-10 : tie.Need-returns-10
+returns-9 : tie.Need-returns-9
 unfolding run-command get-supported-logs
-returns-10 c =
+returns-9 c =
     let k = c .before .before .before .before .before in
     let e = c .before .before .get-supported-logs .ensures in
     answer-at _ _ _ _ _ 0x0400 (admitted k) (c .before .before .before .before .match .keys7) (read-answer (valid k) (zero k) (e .size) (e .bytes))
@@ -249,9 +246,9 @@ returns-10 c =
 same-length-5 : tie.Need-same-length-5
 same-length-5 c = search needs
 
-returns-11 : tie.Need-returns-11
+returns-10 : tie.Need-returns-10
 unfolding run-command
-returns-11 c =
+returns-10 c =
     let k = c .before .before .before .before .before in
     let e = c .before .before .get-log .ensures in
     answer-at _ _ _ _ _ 0x0401 (admitted k) (c .before .before .before .before .match .keys8) (read-answer (valid k) (e .code) (e .size) (e .bytes))
@@ -259,9 +256,9 @@ returns-11 c =
 same-length-6 : tie.Need-same-length-6
 same-length-6 c = search needs
 
-returns-12 : tie.Need-returns-12
+returns-11 : tie.Need-returns-11
 unfolding run-command identify
-returns-12 c =
+returns-11 c =
     let k = c .before .before .before .before .before in
     let e = c .before .before .identify .ensures in
     answer-at _ _ _ _ _ 0x4000 (admitted k) (c .before .before .before .before .match .keys9) (read-answer (valid k) (zero k) (e .size) (e .bytes))
@@ -269,37 +266,39 @@ returns-12 c =
 same-length-7 : tie.Need-same-length-7
 same-length-7 c = search needs
 
-returns-13 : tie.Need-returns-13
+returns-12 : tie.Need-returns-12
 unfolding run-command
-returns-13 c =
+returns-12 c =
     let k = c .before .before .before .before .before .before in
     answer-at _ _ _ _ _ 0x4300 (admitted k) (c .before .before .before .before .before .match .keys10) (list-read _ _ (valid k) (k .before .lines-of .ensures) _ (c .before .before .get3 .ensures))
 
-returns-14 : tie.Need-returns-14
+returns-13 : tie.Need-returns-13
 unfolding run-command
-returns-14 c =
+returns-13 c =
     let k = c .before .before .before .before in
     answer-at _ _ _ _ _ 0x4301 (admitted k) (c .before .before .before .match .keys11)
     (list-change _ _ (valid k) (k .before .lines-of .ensures) (ap (λ (n : ℕ). inject-poison n (poison-of (start k .args .t1 .poison)) (start k .args .payload .now)) (k .before .lines-of .ensures)) (c .before .inject .ensures))
 
-returns-15 : tie.Need-returns-15
+returns-14 : tie.Need-returns-14
 unfolding run-command
-returns-15 c =
+returns-14 c =
     let k = c .before .before .before .before .before in
     answer-at _ _ _ _ _ 0x4302 (admitted k) (c .before .before .before .before .match .keys12)
     (list-change _ _ (valid k) (k .before .lines-of .ensures) (ap₂ (λ (n t : ℕ). clear-poison n (poison-of (start k .args .t1 .poison)) (start k .args .payload .now) t) (k .before .lines-of .ensures) (c .before .before .time .ensures)) (c .before .clear2 .ensures))
 
-returns-16 : tie.Need-returns-16
+returns-15 : tie.Need-returns-15
 unfolding run-command
-returns-16 c = unknown-answer _ _ _ _ _ (valid (c .before)) (admitted (c .before))
+returns-15 c = unknown-answer _ _ _ _ _ (valid (c .before)) (admitted (c .before))
     (simp (ne-eqb _ _ (c .match .rest .0 .0 .0 .0 .0 .0 .0 .0 .0 .0 .0 .1), ne-eqb _ _ (c .match .rest .0 .0 .0 .0 .0 .0 .0 .0 .0 .0 .1), ne-eqb _ _ (c .match .rest .0 .0 .0 .0 .0 .0 .0 .0 .0 .1), ne-eqb _ _ (c .match .rest .0 .0 .0 .0 .0 .0 .0 .0 .1), ne-eqb _ _ (c .match .rest .0 .0 .0 .0 .0 .0 .0 .1), ne-eqb _ _ (c .match .rest .0 .0 .0 .0 .0 .0 .1), ne-eqb _ _ (c .match .rest .0 .0 .0 .0 .0 .1), ne-eqb _ _ (c .match .rest .0 .0 .0 .0 .1), ne-eqb _ _ (c .match .rest .0 .0 .0 .1), ne-eqb _ _ (c .match .rest .0 .0 .1), ne-eqb _ _ (c .match .rest .0 .1), ne-eqb _ _ (c .match .rest .1)))
+
+returns-16 : tie.Need-returns-16
+returns-16 c = refusal-answer _ _ _ _ _ _ (c .before .before .before .before .pre) (c .before .admitted .ensures) (c .if1 .left)
 
 pub command-spec : {M : Type 1} → statement M
 command-spec =
     tie.close
     (tie.spec
     admitted-requires
-    returns
     lines-of-requires
     shared-slice-read-k
     get-code-requires
@@ -328,23 +327,24 @@ command-spec =
     time-requires
     clear-requires-2
     same-length
+    returns
     returns-2
     returns-3
     returns-4
-    returns-5
     same-length-2
+    returns-5
     returns-6
-    returns-7
     same-length-3
+    returns-7
     returns-8
-    returns-9
     same-length-4
-    returns-10
+    returns-9
     same-length-5
-    returns-11
+    returns-10
     same-length-6
-    returns-12
+    returns-11
     same-length-7
+    returns-12
     returns-13
     returns-14
     returns-15

@@ -12,17 +12,14 @@ use Rattle.mailbox.proofs.device.Device.event_report.Statement.{stateme
 use Rattle.mailbox.proofs.device.Device.event_report.Tie as tie
 
 -- past the checks: the record has 128 bytes, and there is such a log
-passed : (c : tie.Else1) → report-code (c .before .before .before .args .log) (length (c .before .before .before .args .event .now)) ≡ 0
-passed c = sym (c .before .report-code .ensures) ∙ c .if1 .left
+passed : (c : tie.Then1) → report-code (c .before .before .before .args .log) (length (c .before .before .before .args .event .now)) ≡ 0
+passed c = sym (c .before .report-code .ensures) ∙ c .if1 .taken
 
-taken : (c : tie.Else1) → (length (c .before .before .before .args .event .now) ≡ 128) × (c .before .before .before .args .log < 5)
+taken : (c : tie.Then1) → (length (c .before .before .before .args .event .now) ≡ 128) × (c .before .before .before .args .log < 5)
 taken c = report-code-zero _ _ (passed c)
 
 report-code-requires : tie.Need-report-code-requires
 report-code-requires c κs = search needs
-
-returns : tie.Need-returns
-returns c = event-refused _ _ _ _ (c .before .before .before .pre) _ (c .before .report-code .ensures) (c .if1 .taken)
 
 time-requires : tie.Need-time-requires
 time-requires c κs = search needs
@@ -42,23 +39,26 @@ mul-next c = let h = taken (c .before .before .before .before .before) .1 in rec
 element-set-from-next : tie.Need-element-set-from-next
 element-set-from-next c = taken (c .before .before .before .before .before) .1
 
-returns-2 : tie.Need-returns-2
-returns-2 c =
+returns : tie.Need-returns
+returns c =
     let e = c .before .before .before .before .before in
     let s = e .before .before .before in
     let five : length (s .args .t1 .logs) ≡ 5 = simp length-map at (s .good .0 .1 .1 .1 .1 .1 .1 .0 .1 .0 .1) in
-    event-taken _ _ _ _ (s .pre) _ _ five (c .before .before .before .time .ensures) (passed e) (c .before .report .ensures)
+    event-taken _ _ _ _ (s .pre) _ _ _ five (e .if1 .taken) (c .before .before .before .time .ensures) (passed e) (c .before .report .ensures)
+
+returns-2 : tie.Need-returns-2
+returns-2 c = event-refused _ _ _ _ (c .before .before .before .pre) _ (c .before .report-code .ensures) (c .if1 .left)
 
 pub event-report-spec : {M : Type 1} → statement M
 event-report-spec =
     tie.close
     (tie.spec
     report-code-requires
-    returns
     time-requires
     mul-held
     element-copy-out-held
     report-requires
     mul-next
     element-set-from-next
+    returns
     returns-2)

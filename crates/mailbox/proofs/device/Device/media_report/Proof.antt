@@ -18,11 +18,11 @@ on-lines : (c : tie.After-lines-of) → media-code (c .lines-of .result) (c .bef
 on-lines c = ap (λ (n : ℕ). media-code n (c .before .args .address) (c .before .args .lines) (c .before .args .kind)) (c .lines-of .ensures)
 
 -- past them, the range ends on the device
-zero : (c : tie.Else1) → media-code (lines-of (state-of (c .before .before .before .args .self))) (c .before .before .before .args .address) (c .before .before .before .args .lines)
+zero : (c : tie.Then1) → media-code (lines-of (state-of (c .before .before .before .args .self))) (c .before .before .before .args .address) (c .before .before .before .args .lines)
     (c .before .before .before .args .kind) ≡ 0
-zero c = sym (c .before .check-report .ensures ∙ on-lines (c .before .before)) ∙ c .if1 .left
+zero c = sym (c .before .check-report .ensures ∙ on-lines (c .before .before)) ∙ c .if1 .taken
 
-ends : (c : tie.Else1) → c .before .before .before .args .address / 64 + c .before .before .before .args .lines ≤ capacity
+ends : (c : tie.Then1) → c .before .before .before .args .address / 64 + c .before .before .before .args .lines ≤ capacity
 ends c =
     let h = media-zero _ _ _ _ (zero c) .1 in
     let k = device-lines _ _ (c .before .before .before .pre) (c .before .before .lines-of .ensures) in
@@ -34,11 +34,6 @@ lines-of-requires c κs = search needs
 
 check-report-requires : tie.Need-check-report-requires
 check-report-requires c κs = search needs
-
-returns : tie.Need-returns
-returns c =
-    let s = c .before .before .before in
-    media-refused (s .args .self) _ _ _ _ (s .pre) _ (c .before .check-report .ensures ∙ on-lines (c .before .before)) (c .if1 .taken)
 
 time-requires : tie.Need-time-requires
 time-requires c κs = search needs
@@ -52,10 +47,16 @@ report-requires c κs =
     let s = e .before .before .before in
     (device-any _ _ (s .pre) (e .before .before .lines-of .ensures), ends e, media-zero _ _ _ _ (zero e) .0)
 
+returns : tie.Need-returns
+returns c =
+    let e = c .before .before .before .before .before in
+    let s = e .before .before .before in
+    media-taken (s .args .self) _ _ _ _ (s .pre) _ _ _ (e .if1 .taken) (c .before .before .before .time .ensures) (zero e) (c .before .report .ensures)
+
 returns-2 : tie.Need-returns-2
 returns-2 c =
-    let e = c .before .before .before .before .before in
-    media-taken (e .before .before .before .args .self) _ _ _ _ (e .before .before .before .pre) _ _ (c .before .before .before .time .ensures) (zero e) (c .before .report .ensures)
+    let s = c .before .before .before in
+    media-refused (s .args .self) _ _ _ _ (s .pre) _ (c .before .check-report .ensures ∙ on-lines (c .before .before)) (c .if1 .left)
 
 pub media-report-spec : {M : Type 1} → statement M
 media-report-spec =
@@ -63,8 +64,8 @@ media-report-spec =
     (tie.spec
     lines-of-requires
     check-report-requires
-    returns
     time-requires
     cast-report
     report-requires
+    returns
     returns-2)
