@@ -40,7 +40,7 @@ and-parts : (a b : Bool) → (a && b) ≡ true → (a ≡ true) × (b ≡ true)
 and-parts true b e = (refl, e)
 and-parts false b e = absurd (false≢true e)
 
-set-reported : (p : Paper) (c : Call) (code k : ℕ) → reports c code k ≡ true → write p c code .set k ≡ true
+pub set-reported : (p : Paper) (c : Call) (code k : ℕ) → reports c code k ≡ true → write p c code .set k ≡ true
 unfolding write paper-inject paper-report
 set-reported p (command opcode payload time room) code k e =
     let done = and-parts (eqb code 0) _ e in
@@ -56,7 +56,7 @@ set-reported p event-status code k e = absurd (false≢true e)
 set-reported p damage-total code k e = absurd (false≢true e)
 
 -- ---- a call that does not clear it leaves it there
-set-kept : (p : Paper) (c : Call) (code k : ℕ) → p .set k ≡ true → clears c code k ≡ false → write p c code .set k ≡ true
+pub set-kept : (p : Paper) (c : Call) (code k : ℕ) → p .set k ≡ true → clears c code k ≡ false → write p c code .set k ≡ true
 unfolding write paper-inject paper-clear paper-report
 set-kept p (command opcode payload time room) code k h e = done (eqb code 0) e
   where

@@ -4,4 +4,5 @@ pub mod Demand1
 pub mod Demand3
 pub mod Damage
 pub mod Ran
+pub mod KeptFirst
 pub mod Cases

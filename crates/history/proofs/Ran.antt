@@ -1,11 +1,19 @@
 -- Demand 3 of the code: the contracts of crate `mailbox` make every call of the code a step of the definitions, so that what holds after every list of calls
--- holds of every run of the code. Assumes nothing.
-use mathlib.Core.Path.{_≡_, refl, sym}
-use mathlib.Core.List.{List}
-use Prim.Native.Nat.{ℕ}
+-- holds of every run of the code; and what that says of the values that the code hands back: the answer of a line test, the number of damage total.
+-- Assumes nothing.
+use mathlib.Core.Path.{_≡_, refl, sym, ap, _∙_}
+use mathlib.Core.Bool.{true, false}
+use mathlib.Core.List.{List, [], _∷_, _++_}
+use Prim.Native.Nat.{ℕ, _+_, _*_, _<_}
+use native.Mathlib.Omega.{arith}
 use lib.ListN.{length}
+use Rattle.poison.specs.Runs.{count}
+use Rattle.poison.specs.LineTest.{answer-number}
+use Rattle.poison.specs.declared.line_test.LineTest.{LineTest}
+use Rattle.poison.specs.declared.line_test.LineTest.the-variants.{Clean, Damaged, Unknown}
 use Rattle.poison.specs.Paper.{Paper, blank-paper}
-use Rattle.mailbox.specs.State.{lines-of, state-of}
+use Rattle.events.specs.declared.status.Status.{Status}
+use Rattle.mailbox.specs.State.{DeviceState, lines-of, state-of}
 use Rattle.mailbox.specs.declared.device.Device.{Device}
 use Rattle.mailbox.specs.declared.device.Answer.{Answer}
 use Rattle.mailbox.specs.declared.device.Made.{Made}
@@ -14,13 +22,14 @@ use Rattle.mailbox.specs.declared.device_calls.MediaAnswer.{MediaAnswer}
 use Rattle.mailbox.specs.declared.device_calls.LineAnswer.{LineAnswer}
 use Rattle.mailbox.specs.Mailbox.{outcome}
 use Rattle.mailbox.specs.DeviceCalls as Device
-use Rattle.mailbox.specs.Contracts.{Answered, Makes, EventDone, MediaDone, LineDone}
-use Rattle.history.specs.Calls.{Call, command, event-report, media-report, line-test, step}
-use Rattle.history.specs.Paper.{write}
+use Rattle.mailbox.specs.Contracts.{Answered, Makes, EventDone, MediaDone, LineDone, StatusGiven}
+use Rattle.history.specs.Calls.{Call, command, event-report, media-report, line-test, event-status, damage-total, step}
+use Rattle.history.specs.Paper.{write, history}
 use Rattle.history.specs.Demand3.{Demand3}
-use Rattle.history.specs.Ran.{Steps, Ran, made, called}
-use Rattle.history.proofs.Steps.{Holds, call-holds}
-use Rattle.history.proofs.Demand3.{demanded, holds-made}
+use Rattle.history.specs.Damage.{reports}
+use Rattle.history.specs.Ran.{Steps, Ran, made, called, Spared, none, more}
+use Rattle.history.proofs.Demand3.{demand-3}
+use Rattle.history.proofs.Damage.{set-reported, set-kept}
 
 -- ---- what each contract gives
 pub command-steps : (d : Device) (opcode : ℕ) (payload : List ℕ) (time : ℕ) (before after : List ℕ) (r : Answer)
@@ -36,20 +45,97 @@ pub media-steps : (d : Device) (time address lines kind : ℕ) (r : MediaAnswer)
 unfolding step
 media-steps d time address lines kind r a = record { number = a .code; next = a .next }
 
--- line test hands back no device: the same one goes on, as it does after event status and damage total
+-- line test, event status and damage total hand back no device: the same one goes on
 pub line-steps : (d : Device) (address : ℕ) (r : LineAnswer) → LineDone (Device.line-test (state-of d) address) r → Steps d d (line-test address) (r .code)
 unfolding step
 line-steps d address r a = record { number = a .code; next = refl }
 
-pub make-starts : (v p : ℕ) (m : Made) → Makes (Device.make v p) m → Ran v p (m .device) blank-paper
-make-starts v p m a = made (m .device) blank-paper (a .next) refl
+pub status-steps : (d : Device) (r : Status) → StatusGiven (Device.event-status (state-of d)) r → Steps d d event-status 0
+unfolding step
+status-steps d r a = record { number = refl; next = refl }
 
--- ---- every run of the code
-ran-holds : (v p : ℕ) (d : Device) (w : Paper) → Ran v p d w → Holds (lines-of (Device.make v p .next)) (state-of d) w
-ran-holds v p d w (made _ _ e f) = rw (e, f) (holds-made v p)
-ran-holds v p e x (called d _ w _ ran c code s f) = rw (f, s .next, s .number) (call-holds _ (state-of d) w (ran-holds v p d w ran) c)
+pub total-steps : (d : Device) (total : ℕ) → total ≡ Device.damage-total (state-of d) → Steps d d damage-total 0
+unfolding step
+total-steps d total a = record { number = refl; next = refl }
+
+pub make-starts : (v p : ℕ) (m : Made) → Makes (Device.make v p) m → Ran v p [] (m .device) blank-paper
+make-starts v p m a = made [] (m .device) blank-paper refl (a .next) refl
+
+-- ---- every run of the code is a history
+-- one call more
+history-more : (d : DeviceState) (p : Paper) (bs : List Call) (c : Call)
+    → history d p (bs ++ (c ∷ [])) ≡ record { device = step (history d p bs .device) c .next; paper = write (history d p bs .paper) c (step (history d p bs .device) c .code) }
+history-more d p [] c = refl
+history-more d p (b ∷ bs) c = history-more (step d b .next) (write p b (step d b .code)) bs c
+
+-- The device and the paper after a run of the code are those of the history of its calls.
+pub ran-history : (v p : ℕ) (cs : List Call) (d : Device) (w : Paper) → Ran v p cs d w
+    → (state-of d ≡ history (Device.make v p .next) blank-paper cs .device) × (w ≡ history (Device.make v p .next) blank-paper cs .paper)
+ran-history v p cs d w (made _ _ _ e f g) = (rw (e, f), rw (e, g))
+ran-history v p cs e x (called bs _ d _ w _ ran c code s f g) =
+    let h = ran-history v p bs d w ran in
+    let m = history-more (Device.make v p .next) blank-paper bs c in (
+      s .next ∙ rw (h .0, f, m),
+      g ∙ rw (s .number, h .0, h .1, f, m),
+    )
 
 -- Demand 3 of the code: after any calls of the code on the device that make handed out, the device and the paper written from the calls and the numbers
 -- that the code answered are as demand 3 asks
-pub code-demand-3 : (v p : ℕ) (d : Device) (w : Paper) → Ran v p d w → Demand3 (lines-of (Device.make v p .next)) (state-of d) w
-code-demand-3 v p d w ran = demanded _ (state-of d) w (ran-holds v p d w ran)
+pub code-demand-3 : (v p : ℕ) (cs : List Call) (d : Device) (w : Paper) → Ran v p cs d w → Demand3 (Device.make v p .next) cs (lines-of (Device.make v p .next)) (state-of d) w
+code-demand-3 v p cs d w ran = let h = ran-history v p cs d w ran in rw (h .0, h .1) (demand-3 v p cs)
+
+-- ---- what the code hands back
+clean-of : (a : LineTest) → answer-number a ≡ 0 → a ≡ Clean
+clean-of Clean e = refl
+clean-of (Damaged kind) e = absurd (omega arith)
+clean-of Unknown e = absurd (omega arith)
+
+-- a run of the code that ends in a device, with line k in its paper set
+record Still (v p k : ℕ) (d : Device) : Type 0 where
+  calls : List Call
+  paper : Paper
+  ran : Ran v p calls d paper
+  damaged : paper .set k ≡ true
+
+still : (v p k : ℕ) (d e : Device) → Spared k d e → Still v p k d → Still v p k e
+still v p k d e (none _ q) s = rw q s
+still v p k d f (more e _ spared c code st kept) s =
+    let t = still v p k d e spared s in
+    record {
+      calls = t .calls ++ (c ∷ []);
+      paper = write (t .paper) c code;
+      ran = called (t .calls) (t .calls ++ (c ∷ [])) e f (t .paper) (write (t .paper) c code) (t .ran) c code st refl refl;
+      damaged = set-kept (t .paper) c code k (t .damaged) kept;
+    }
+
+module _ (v p : ℕ) (cs : List Call) (d : Device) (w : Paper) (ran : Ran v p cs d w) where
+  -- The line test of a line of the paper set succeeds, and its answer is not Clean.
+  pub code-blocks : (k : ℕ) → w .set k ≡ true → (r : LineAnswer) → LineDone (Device.line-test (state-of d) (k * 64)) r → (r .code ≡ 0) × (r .answer ≡ Clean → ⊥)
+  code-blocks k e r a =
+      let b = code-demand-3 v p cs d w ran .blocked k e in
+      (a .code ∙ b .code, λ c. b .answer (sym (a .number) ∙ ap answer-number c))
+
+  -- While the flag is clear, that of every other line of the device succeeds, and its answer is Clean.
+  pub code-clean : d .poison .overflow ≡ false → (k : ℕ) → k < lines-of (Device.make v p .next) → w .set k ≡ false
+      → (r : LineAnswer) → LineDone (Device.line-test (state-of d) (k * 64)) r → (r .code ≡ 0) × (r .answer ≡ Clean)
+  code-clean o k l e r a =
+      let b = code-demand-3 v p cs d w ran .clean o k l e in
+      (a .code ∙ b .code, clean-of (r .answer) (a .number ∙ b .answer))
+
+  -- The number that damage total hands back is the one in the size equation.
+  pub code-size : (total : ℕ) → total ≡ Device.damage-total (state-of d)
+      → count (w .set) (lines-of (Device.make v p .next)) ≡ total + count (w .dropped) (lines-of (Device.make v p .next))
+  code-size total e = rw e (code-demand-3 v p cs d w ran .size)
+
+-- A line that a call of the code reported damaged, by the number that it answered, and that no later call of the code cleared, is answered, and not Clean.
+pub code-reported-blocks : (v p : ℕ) (cs : List Call) (d : Device) (w : Paper) → Ran v p cs d w
+    → (e : Device) (c : Call) (code k : ℕ) → Steps d e c code → reports c code k ≡ true → (f : Device) → Spared k e f
+    → (r : LineAnswer) → LineDone (Device.line-test (state-of f) (k * 64)) r → (r .code ≡ 0) × (r .answer ≡ Clean → ⊥)
+code-reported-blocks v p cs d w ran e c code k s reported f spared r a =
+    let t = still v p k e f spared (record {
+      calls = cs ++ (c ∷ []);
+      paper = write w c code;
+      ran = called cs (cs ++ (c ∷ [])) d e w (write w c code) ran c code s refl refl;
+      damaged = set-reported w c code k reported;
+    }) in
+    code-blocks v p (t .calls) f (t .paper) (t .ran) k (t .damaged) r a

@@ -1,24 +1,24 @@
--- What each call does to the poison list and to the paper: it keeps the number of lines, and it keeps list and paper consistent. Assumes nothing.
-use mathlib.Core.Path.{_≡_, refl, _∙_}
-use mathlib.Core.Bool.{Bool, true, false, cond}
+-- What each call does to the poison list and to the paper: it keeps the number of lines, it keeps list and paper consistent, and it sets the overflow flag
+-- only where a line joins the dropped set, and never clears it. Assumes nothing.
+use mathlib.Core.Path.{_≡_, refl, sym, _∙_}
+use mathlib.Core.Bool.{Bool, true, false, cond, false≢true}
 use mathlib.Core.List.{List}
-use Prim.Native.Nat.{ℕ, _+_, _≤_, _<_}
-use native.Mathlib.Omega.{arith}
-use borrow.Author.Tests.{eqb-true, ltb-true, leb-true}
-use lib.Dec.{leb, ltb, eqb}
+use Prim.Native.Nat.{ℕ}
+use borrow.Author.Tests.{eqb-true}
+use lib.Dec.{eqb}
 use lib.ListN.{length}
 use Rattle.wire.specs.Wire.{field}
 use Rattle.poison.specs.State.{PoisonState}
 use Rattle.poison.specs.Inject.{injects}
-use Rattle.poison.specs.Report.{reportable}
 use Rattle.poison.specs.Paper.{Paper, paper-report}
 use Rattle.poison.proofs.Agreement.{Consistent, consistent-report, consistent-inject, consistent-clear}
+use Rattle.poison.proofs.Drops.{Flags, report-flags, inject-flags, clear-flags}
 use Rattle.mailbox.specs.State.{DeviceState, lines-of}
 use Rattle.mailbox.specs.Outcome.{Outcome}
 use Rattle.mailbox.specs.Commands.{admission}
 use Rattle.mailbox.specs.Clock.{device-time}
 use Rattle.mailbox.specs.EventCommands.{clear-event-records}
-use Rattle.mailbox.specs.PoisonCommands.{aligned, line-of, line-code, range-code, inject-poison, clear-poison}
+use Rattle.mailbox.specs.PoisonCommands.{line-of, line-code, inject-poison, clear-poison}
 use Rattle.mailbox.specs.Mailbox.{run-command, outcome}
 use Rattle.mailbox.specs.DeviceCalls as Device
 use Rattle.mailbox.proofs.Addresses.{line-inside}
@@ -31,6 +31,20 @@ pub record Holds (n : ℕ) (d : DeviceState) (p : Paper) : Type 0 where
   pub lines : lines-of d ≡ n
   pub consistent : Consistent n (d .poison) p
 
+-- what a call makes of the list: list and paper are consistent after it, and the flag is set only where a line joins the dropped set
+record Kept (n : ℕ) (s t : PoisonState) (q : Paper) : Type 0 where
+  consistent : Consistent n t q
+  flags : Flags s t q
+
+-- a call that leaves list and paper
+kept-same : (n : ℕ) (s : PoisonState) (p : Paper) → Consistent n s p → Kept n s s p
+kept-same n s p h = record { consistent = h; flags = record { stays = λ e. e; sets = λ e f. absurd (false≢true (sym e ∙ f)) } }
+
+-- what a call makes of a device d of n lines: device e beside paper q
+record Moves (n : ℕ) (d e : DeviceState) (q : Paper) : Type 0 where
+  lines : lines-of e ≡ n
+  kept : Kept n (d .poison) (e .poison) q
+
 -- the part of a device that demand 3 speaks of
 pub record Same (d e : DeviceState) : Type 0 where
   pub lines : lines-of e ≡ lines-of d
@@ -39,8 +53,8 @@ pub record Same (d e : DeviceState) : Type 0 where
 same-self : (d : DeviceState) → Same d d
 same-self d = record { lines = refl; list = refl }
 
-holds-same : (n : ℕ) (d e : DeviceState) (p : Paper) → Same d e → Holds n d p → Holds n e p
-holds-same n d e p s h = record { lines = s .lines ∙ h .lines; consistent = rw (s .list) (h .consistent) }
+moves-same : (n : ℕ) (d e : DeviceState) (p : Paper) → Same d e → Holds n d p → Moves n d e p
+moves-same n d e p s h = record { lines = s .lines ∙ h .lines; kept = rw (s .list) (kept-same n (d .poison) p (h .consistent)) }
 
 -- of two outcomes that each leave it, whichever is taken leaves it
 either : (d : DeviceState) (b : Bool) (x y : Outcome) → Same d (x .next) → Same d (y .next) → Same d (cond b x y .next)
@@ -66,7 +80,7 @@ run-leaves d op p t i c =
 
 -- ---- Inject Poison and Clear Poison
 inject-keeps : (n : ℕ) (s : PoisonState) (p : Paper) (payload : List ℕ) → Consistent n s p
-    → Consistent n (inject-poison n s payload .list) (cond (eqb (inject-poison n s payload .code) 0) (write-command p 0x4301 payload) p)
+    → Kept n s (inject-poison n s payload .list) (cond (eqb (inject-poison n s payload .code) 0) (write-command p 0x4301 payload) p)
 unfolding inject-poison
 inject-keeps n s p payload h = checked (eqb (line-code n a) 0) refl
   where
@@ -74,17 +88,17 @@ inject-keeps n s p payload h = checked (eqb (line-code n a) 0) refl
     a = field payload 0 8
 
     checked : (b : Bool) → eqb (line-code n a) 0 ≡ b
-        → Consistent n (inject-poison n s payload .list) (cond (eqb (inject-poison n s payload .code) 0) (write-command p 0x4301 payload) p)
+        → Kept n s (inject-poison n s payload .list) (cond (eqb (inject-poison n s payload .code) 0) (write-command p 0x4301 payload) p)
     checked true e = taken (injects s (line-of a)) refl
       where
         taken : (b : Bool) → injects s (line-of a) ≡ b
-            → Consistent n (inject-poison n s payload .list) (cond (eqb (inject-poison n s payload .code) 0) (write-command p 0x4301 payload) p)
-        taken true i = rw (e, i) (consistent-inject n s p h (line-of a) (line-inside n a (eqb-true (line-code n a) 0 e)) i)
-        taken false i = rw (e, i) h
-    checked false e = rw (e, e) h
+            → Kept n s (inject-poison n s payload .list) (cond (eqb (inject-poison n s payload .code) 0) (write-command p 0x4301 payload) p)
+        taken true i = rw (e, i) (record { consistent = consistent-inject n s p h (line-of a) (line-inside n a (eqb-true (line-code n a) 0 e)) i; flags = inject-flags n s p h (line-of a) })
+        taken false i = rw (e, i) (kept-same n s p h)
+    checked false e = rw (e, e) (kept-same n s p h)
 
 clear-keeps : (n : ℕ) (s : PoisonState) (p : Paper) (payload : List ℕ) (time : ℕ) → Consistent n s p
-    → Consistent n (clear-poison n s payload time .list) (cond (eqb (clear-poison n s payload time .code) 0) (write-command p 0x4302 payload) p)
+    → Kept n s (clear-poison n s payload time .list) (cond (eqb (clear-poison n s payload time .code) 0) (write-command p 0x4302 payload) p)
 unfolding clear-poison
 clear-keeps n s p payload time h = checked (eqb (line-code n a) 0) refl
   where
@@ -92,9 +106,9 @@ clear-keeps n s p payload time h = checked (eqb (line-code n a) 0) refl
     a = field payload 0 8
 
     checked : (b : Bool) → eqb (line-code n a) 0 ≡ b
-        → Consistent n (clear-poison n s payload time .list) (cond (eqb (clear-poison n s payload time .code) 0) (write-command p 0x4302 payload) p)
-    checked true e = rw e (consistent-clear n s p h (line-of a) time)
-    checked false e = rw (e, e) h
+        → Kept n s (clear-poison n s payload time .list) (cond (eqb (clear-poison n s payload time .code) 0) (write-command p 0x4302 payload) p)
+    checked true e = rw e (record { consistent = consistent-clear n s p h (line-of a) time; flags = clear-flags n s p h (line-of a) time })
+    checked false e = rw (e, e) (kept-same n s p h)
 
 -- ---- the device-side calls
 event-leaves : (d : DeviceState) (time log : ℕ) (bytes : List ℕ) → Same d (Device.event-report d time log bytes .next)
@@ -103,18 +117,22 @@ event-leaves d time log bytes = record { lines = refl; list = refl }
 
 -- ---- the commands
 module _ (n : ℕ) (d : DeviceState) (p : Paper) (h : Holds n d p) where
+  -- a call that leaves the device and the paper
+  stays : Moves n d d p
+  stays = moves-same n d d p (same-self d) h
+
   -- at its opcode, each of the two
   injects-hold : (op : ℕ) (payload : List ℕ) (time : ℕ) → op ≡ 0x4301
-      → Holds n (run-command d op payload time .next) (cond (eqb (run-command d op payload time .code) 0) (write-command p op payload) p)
+      → Moves n d (run-command d op payload time .next) (cond (eqb (run-command d op payload time .code) 0) (write-command p op payload) p)
   unfolding run-command
   injects-hold op payload time e =
-      rw e (record { lines = h .lines; consistent = rw (h .lines) (inject-keeps n (d .poison) p payload (h .consistent)) })
+      rw e (record { lines = h .lines; kept = rw (h .lines) (inject-keeps n (d .poison) p payload (h .consistent)) })
 
   clears-hold : (op : ℕ) (payload : List ℕ) (time : ℕ) → op ≡ 0x4302
-      → Holds n (run-command d op payload time .next) (cond (eqb (run-command d op payload time .code) 0) (write-command p op payload) p)
+      → Moves n d (run-command d op payload time .next) (cond (eqb (run-command d op payload time .code) 0) (write-command p op payload) p)
   unfolding run-command
   clears-hold op payload time e =
-      rw e (record { lines = h .lines; consistent = rw (h .lines) (clear-keeps n (d .poison) p payload (device-time (d .clock) time) (h .consistent)) })
+      rw e (record { lines = h .lines; kept = rw (h .lines) (clear-keeps n (d .poison) p payload (device-time (d .clock) time) (h .consistent)) })
 
   -- the paper of any other command is as it was, whatever it answers
   as-it-was : (b : Bool) (op : ℕ) (payload : List ℕ) → eqb op 0x4301 ≡ false → eqb op 0x4302 ≡ false → cond b (write-command p op payload) p ≡ p
@@ -122,52 +140,59 @@ module _ (n : ℕ) (d : DeviceState) (p : Paper) (h : Holds n d p) where
   as-it-was false op payload i c = refl
 
   run-holds : (op : ℕ) (payload : List ℕ) (time : ℕ)
-      → Holds n (run-command d op payload time .next) (cond (eqb (run-command d op payload time .code) 0) (write-command p op payload) p)
+      → Moves n d (run-command d op payload time .next) (cond (eqb (run-command d op payload time .code) 0) (write-command p op payload) p)
   run-holds op payload time = inject (eqb op 0x4301) refl
     where
       inject : (b : Bool) → eqb op 0x4301 ≡ b
-          → Holds n (run-command d op payload time .next) (cond (eqb (run-command d op payload time .code) 0) (write-command p op payload) p)
+          → Moves n d (run-command d op payload time .next) (cond (eqb (run-command d op payload time .code) 0) (write-command p op payload) p)
       inject true i = injects-hold op payload time (eqb-true op 0x4301 i)
       inject false i = clear (eqb op 0x4302) refl
         where
           clear : (b : Bool) → eqb op 0x4302 ≡ b
-              → Holds n (run-command d op payload time .next) (cond (eqb (run-command d op payload time .code) 0) (write-command p op payload) p)
+              → Moves n d (run-command d op payload time .next) (cond (eqb (run-command d op payload time .code) 0) (write-command p op payload) p)
           clear true c = clears-hold op payload time (eqb-true op 0x4302 c)
           clear false c =
               rw (as-it-was (eqb (run-command d op payload time .code) 0) op payload i c)
-              (holds-same n d (run-command d op payload time .next) p (run-leaves d op payload time i c) h)
+              (moves-same n d (run-command d op payload time .next) p (run-leaves d op payload time i c) h)
 
-  command-holds : (op : ℕ) (payload : List ℕ) (time room : ℕ) → Holds n (outcome d op payload time room .next) (cond (eqb (outcome d op payload time room .code) 0) (write-command p op payload) p)
+  command-holds : (op : ℕ) (payload : List ℕ) (time room : ℕ) → Moves n d (outcome d op payload time room .next) (cond (eqb (outcome d op payload time room .code) 0) (write-command p op payload) p)
   unfolding outcome
   command-holds op payload time room = admitted (eqb (admission op (length payload) room) 0) refl
     where
       admitted : (b : Bool) → eqb (admission op (length payload) room) 0 ≡ b
-          → Holds n (outcome d op payload time room .next) (cond (eqb (outcome d op payload time room .code) 0) (write-command p op payload) p)
+          → Moves n d (outcome d op payload time room .next) (cond (eqb (outcome d op payload time room .code) 0) (write-command p op payload) p)
       admitted true a = rw a (run-holds op payload time)
-      admitted false a = rw (a, a) h
+      admitted false a = rw (a, a) stays
 
   -- a media report
   media-holds : (time address lines kind : ℕ)
-      → Holds n (Device.media-report d time address lines kind .next) (cond (eqb (Device.media-report d time address lines kind .code) 0) (paper-report p (line-at address) lines) p)
+      → Moves n d (Device.media-report d time address lines kind .next) (cond (eqb (Device.media-report d time address lines kind .code) 0) (paper-report p (line-at address) lines) p)
   unfolding Device.media-report
   media-holds time address lines kind = checked (eqb (Device.media-code (lines-of d) address lines kind) 0) refl
     where
       checked : (b : Bool) → eqb (Device.media-code (lines-of d) address lines kind) 0 ≡ b
-          → Holds n (Device.media-report d time address lines kind .next) (cond (eqb (Device.media-report d time address lines kind .code) 0) (paper-report p (line-at address) lines) p)
+          → Moves n d (Device.media-report d time address lines kind .next) (cond (eqb (Device.media-report d time address lines kind .code) 0) (paper-report p (line-at address) lines) p)
       checked true e =
           rw e
           (record {
             lines = h .lines;
-            consistent = consistent-report n (d .poison) p (h .consistent) (line-of address) lines kind (device-time (d .clock) time) (media-zero n address lines kind (rw (h .lines) at (eqb-true (Device.media-code (lines-of d) address lines kind) 0 e)) .1);
+            kept = record { consistent = consistent-report n (d .poison) p (h .consistent) (line-of address) lines kind (device-time (d .clock) time) (media-zero n address lines kind (rw (h .lines) at (eqb-true (Device.media-code (lines-of d) address lines kind) 0 e)) .1); flags = report-flags n (d .poison) p (h .consistent) (line-of address) lines kind (device-time (d .clock) time) };
           })
-      checked false e = rw (e, e) h
+      checked false e = rw (e, e) stays
 
   -- every call
-  pub call-holds : (c : Call) → Holds n (step d c .next) (write p c (step d c .code))
+  call-moves : (c : Call) → Moves n d (step d c .next) (write p c (step d c .code))
   unfolding step write
-  call-holds (command opcode payload time room) = command-holds opcode payload time room
-  call-holds (event-report time log bytes) = holds-same n d (Device.event-report d time log bytes .next) p (event-leaves d time log bytes) h
-  call-holds (media-report time address lines kind) = media-holds time address lines kind
-  call-holds (line-test address) = h
-  call-holds event-status = h
-  call-holds damage-total = h
+  call-moves (command opcode payload time room) = command-holds opcode payload time room
+  call-moves (event-report time log bytes) = moves-same n d (Device.event-report d time log bytes .next) p (event-leaves d time log bytes) h
+  call-moves (media-report time address lines kind) = media-holds time address lines kind
+  call-moves (line-test address) = stays
+  call-moves event-status = stays
+  call-moves damage-total = stays
+
+  pub call-holds : (c : Call) → Holds n (step d c .next) (write p c (step d c .code))
+  call-holds c = let m = call-moves c in record { lines = m .lines; consistent = m .kept .consistent }
+
+  -- A call never clears the overflow flag, and where it sets the flag, some line is in the dropped set after it.
+  pub call-flags : (c : Call) → Flags (d .poison) (step d c .next .poison) (write p c (step d c .code))
+  call-flags c = call-moves c .kept .flags

@@ -3,12 +3,15 @@
 use Prim.Native.Nat.{ℕ, _+_, _*_, _<_}
 use mathlib.Core.Path.{_≡_}
 use mathlib.Core.Bool.{true, false}
+use mathlib.Core.List.{List, _++_}
 use lib.ListN.{length, getD}
 use Rattle.poison.specs.Runs.{run, in-run, count}
 use Rattle.poison.specs.State as Poison
-use Rattle.poison.specs.Paper.{Paper}
+use Rattle.poison.specs.Paper.{Paper, blank-paper}
 use Rattle.mailbox.specs.State.{DeviceState}
 use Rattle.mailbox.specs.DeviceCalls as Device
+use Rattle.history.specs.Calls.{Call}
+use Rattle.history.specs.Paper.{history}
 
 -- the host asks about line k and is told Clean: the call succeeds, and its answer is number 0
 pub record SaysClean (d : DeviceState) (k : ℕ) : Type 0 where
@@ -20,8 +23,17 @@ pub record Blocks (d : DeviceState) (k : ℕ) : Type 0 where
   pub code : Device.line-test d (k * 64) .code ≡ 0
   pub answer : Device.line-test d (k * 64) .number ≡ 0 → ⊥
 
--- on a device of n lines
-pub record Demand3 (n : ℕ) (d : DeviceState) (p : Paper) : Type 0 where
+-- "a line was ever dropped exactly when one ever joined that set": after some first calls of the list some line is in the dropped set. The paper is the
+-- one written from those first calls on the device that make handed out.
+pub record EverDropped (made : DeviceState) (calls : List Call) : Type 0 where
+  pub first : List Call
+  pub rest : List Call
+  pub prefix : calls ≡ first ++ rest
+  pub line : ℕ
+  pub dropped : history made blank-paper first .paper .dropped line ≡ true
+
+-- on a device of n lines, after a list of calls on the device that make handed out
+pub record Demand3 (made : DeviceState) (calls : List Call) (n : ℕ) (d : DeviceState) (p : Paper) : Type 0 where
   -- "After the list the device's entries have the paper's starts and lengths"
   pub entries : Poison.shapes (d .poison .entries) ≡ p .entries
   -- "After the list no line is in two entries."
@@ -33,7 +45,8 @@ pub record Demand3 (n : ℕ) (d : DeviceState) (p : Paper) : Type 0 where
   -- such line counted once."
   pub size : count (p .set) n ≡ Device.damage-total d + count (p .dropped) n
   -- "The overflow flag is set exactly when a line was ever dropped."
-  pub flag : d .poison .overflow ≡ p .ever
+  pub flag-dropped : d .poison .overflow ≡ true → EverDropped made calls
+  pub dropped-flag : EverDropped made calls → d .poison .overflow ≡ true
   -- "The line test says Clean for no line in the paper set,": the call succeeds, and its answer is not Clean
   pub blocked : (k : ℕ) → p .set k ≡ true → Blocks d k
   -- "and, while the flag is clear, for every other line of the device."

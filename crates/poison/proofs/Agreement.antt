@@ -5,12 +5,12 @@ use mathlib.Core.Bool.{Bool, true, false, not, _&&_, _||_, cond, true≢false, f
 use mathlib.Core.List.{List, [], _∷_, map}
 use Prim.Native.Nat.{ℕ, zero, suc, _+_, _-_, _≤_, _<_}
 use native.Mathlib.Omega.{arith}
-use borrow.Author.Tests.{le-leb, lt-ltb, ltb-true}
+use borrow.Author.Tests.{ltb-true}
 use lib.Dec.{ltb, eqb}
 use lib.ListN.{length, take, drop, getD, length-map, length-take, take-append-drop}
 use Rattle.poison.specs.Runs.{Run, run, end, in-run, in-runs, Chain, insert, runs-of, cut, after-in, slots, room, uncovered, some-run, keeps, lost}
 use Rattle.poison.specs.State.{PoisonState, empty, shape, entry, shapes, covers, kind-at}
-use Rattle.poison.specs.Report.{with-drop, report-entries, after-report}
+use Rattle.poison.specs.Report.{with-drop, dropped-runs, report-entries, after-report}
 use Rattle.poison.specs.LineTest.{line-test, answer-number}
 use Rattle.poison.specs.Inject.{after-inject}
 use Rattle.poison.specs.Clear.{after-clear}
@@ -21,16 +21,15 @@ use Rattle.poison.proofs.RunLaws.{in-runs-of, chain-runs-of, in-insert,
 use Rattle.poison.proofs.Shapes.{shapes-entry, shapes-insert, shapes-insert-all, shapes-cut}
 
 -- what holds of the list and the paper after each change: the list has the paper's entries, at most 256, in a chain on the device; a line is in the
--- paper set exactly if an entry covers it or it was dropped, and never both; while no line was ever dropped the dropped set is
--- empty; every line of the paper set is on the device
+-- paper set exactly if an entry covers it or it was dropped, and never both; while the flag is clear the dropped set is empty; every line of
+-- the paper set is on the device
 pub record Consistent (n : ℕ) (s : PoisonState) (p : Paper) : Type 0 where
   pub same : shapes (s .entries) ≡ p .entries
   pub few : length (p .entries) ≤ slots
   pub chain : Chain 0 n (p .entries)
   pub split : (k : ℕ) → p .set k ≡ (in-runs (p .entries) k || p .dropped k)
   pub apart : (k : ℕ) → (in-runs (p .entries) k && p .dropped k) ≡ false
-  pub flag : s .overflow ≡ p .ever
-  pub never : p .ever ≡ false → (k : ℕ) → p .dropped k ≡ false
+  pub never : s .overflow ≡ false → (k : ℕ) → p .dropped k ≡ false
   pub inside : (k : ℕ) → p .set k ≡ true → k < n
 
 -- ---- what follows from it
@@ -73,7 +72,7 @@ agrees n s p g =
           count-cong (p .set) (λ k. in-runs (p .entries) k || p .dropped k) n (λ k h. g .split k)
           ∙ count-or (in-runs (p .entries)) (p .dropped) n (g .apart)
           ∙ rw (g .same, count-chain 0 n (p .entries) (g .chain));
-      flag = g .flag;
+      flag = flag;
       not-clean = not-clean;
       clean-else = clean-else;
       inside = g .inside;
@@ -84,7 +83,14 @@ agrees n s p g =
     not-clean k h e f =
         let t = clean-is (covers (s .entries) k) (s .overflow) (kind-at (s .entries) k) f in
         let u : in-runs (p .entries) k ≡ false = rw (← g .same) (t .0) in
-        true≢false (sym e ∙ g .split k ∙ rw (u, g .never (sym (g .flag) ∙ t .1) k))
+        true≢false (sym e ∙ g .split k ∙ rw (u, g .never (t .1) k))
+
+    flag : (k : ℕ) → p .dropped k ≡ true → s .overflow ≡ true
+    flag k e = go (s .overflow) (g .never)
+      where
+        go : (b : Bool) → (b ≡ false → (j : ℕ) → p .dropped j ≡ false) → b ≡ true
+        go true f = refl
+        go false f = absurd (true≢false (sym e ∙ f refl k))
 
     clean-else : s .overflow ≡ false → (k : ℕ) → k < n → p .set k ≡ false → answer-number (line-test (s) k) ≡ 0
     clean-else o k h e = rw (g .same, o, uncov (in-runs (p .entries) k) (p .dropped k) (sym (g .split k) ∙ e))
@@ -93,7 +99,7 @@ agrees n s p g =
         uncov true y z = z
         uncov false y z = refl
 
--- ---- a report report
+-- ---- a report
 -- line by line: s the paper set, c covered, d dropped, t newly stored, u newly dropped, x in the extent
 media-split : (c t d u s x : Bool) → s ≡ (c || d) → (t || u) ≡ (x && not c) → (s || x) ≡ ((t || c) || ((d || u) && not t))
 media-split true true d u s x p q = rw p
@@ -132,6 +138,12 @@ chain-fit : (xs : List Run) (a l : ℕ) → Chain a (a + l) (fit xs a l)
 unfolding uncovered
 chain-fit xs a l = chain-take a (a + l) (room (length xs)) (runs-of (λ j. not (in-runs xs j)) a l) (chain-runs-of (λ j. not (in-runs xs j)) a l)
 
+-- the list drops a run where the paper does
+pub same-dropped : (s : PoisonState) (E : List Run) (a l : ℕ) → shapes (s .entries) ≡ E → some-run (dropped-runs (s .entries) a l) ≡ some-run (unfit E a l)
+same-dropped s E a l same =
+    ap (λ (m : ℕ). some-run (drop (room m) (uncovered (shapes (s .entries)) a l))) (sym (length-map (s .entries) shape))
+    ∙ ap (λ (xs : List Run). some-run (unfit xs a l)) same
+
 -- ---- an injection: x says that the line is the one injected
 taken-split : (c d s x : Bool) → s ≡ (c || d) → (x ≡ true → c ≡ true) → (s || x) ≡ (c || (d && not x))
 taken-split true d s x p q = rw p
@@ -164,14 +176,14 @@ clear-apart c d e true p = rw (and-false (c && not e))
 clear-apart true d e false p = rw p (and-false (not e && true))
 clear-apart false d e false p = refl
 
-in-lost : (k : ℕ) (xs : List Run) (j : ℕ) → in-runs (lost k xs) j ≡ (not (keeps k xs) && in-runs (after-in k xs) j)
+pub in-lost : (k : ℕ) (xs : List Run) (j : ℕ) → in-runs (lost k xs) j ≡ (not (keeps k xs) && in-runs (after-in k xs) j)
 in-lost k xs j = go (keeps k xs)
   where
     go : (b : Bool) → in-runs (cond b [] (after-in k xs)) j ≡ (not b && in-runs (after-in k xs) j)
     go true = refl
     go false = refl
 
-keep-or : (b a : Bool) → (b || not a) ≡ not (not b && a)
+pub keep-or : (b a : Bool) → (b || not a) ≡ not (not b && a)
 keep-or true a = refl
 keep-or false a = refl
 
@@ -217,8 +229,7 @@ module _ (n : ℕ) (s : PoisonState) (p : Paper) (g : Consistent n s p) where
         chain = chain-insert-all 0 n a (a + l) (fit E a l) E (g .chain) (chain-fit E a l) (omega arith) h free;
         split = λ k. media-split (in-runs E k) (in-runs (fit E a l) k) (p .dropped k) (in-runs (unfit E a l) k) (p .set k) (in-run (run a l) k) (g .split k) (stored-or-dropped E a l k) ∙ rw (in-insert-all (fit E a l) E k);
         apart = λ k. rw (in-insert-all (fit E a l) E k) (media-apart (in-runs E k) (in-runs (fit E a l) k) (p .dropped k) (in-runs (unfit E a l) k) (in-run (run a l) k) (g .apart k) (stored-or-dropped E a l k));
-        flag = rw (g .flag, len, g .same);
-        never = λ e k. rw (g .never (or-false-0 (p .ever) (some-run (unfit E a l)) e) k, no-run (unfit E a l) k (or-false-1 (p .ever) (some-run (unfit E a l)) e));
+        never = λ e k. rw (g .never (or-false-0 (s .overflow) (some-run (dropped-runs (s .entries) a l)) e) k, no-run (unfit E a l) k (sym (same-dropped s E a l (g .same)) ∙ or-false-1 (s .overflow) (some-run (dropped-runs (s .entries) a l)) e));
         inside = λ k e. or-elim (p .set k) (in-run (run a l) k) (λ x. g .inside k x) (λ x. in-run-inside a l k n h x) e;
       }
     where
@@ -252,7 +263,7 @@ module _ (n : ℕ) (s : PoisonState) (p : Paper) (g : Consistent n s p) where
       len : length (s .entries) ≡ length E
       len = sym (length-map (s .entries) shape) ∙ ap length (g .same)
 
-      never : p .ever ≡ false → (j : ℕ) → (D j && not (X j)) ≡ false
+      never : s .overflow ≡ false → (j : ℕ) → (D j && not (X j)) ≡ false
       never e j = rw (g .never e j)
 
       inside : (j : ℕ) → (p .set j || X j) ≡ true → j < n
@@ -267,7 +278,6 @@ module _ (n : ℕ) (s : PoisonState) (p : Paper) (g : Consistent n s p) where
             chain = g .chain;
             split = λ j. taken-split (in-runs E j) (D j) (p .set j) (X j) (g .split j) (λ x. rw (one-line-is k j x) c);
             apart = λ j. kept-apart (in-runs E j) (D j) (not (X j)) (g .apart j);
-            flag = g .flag;
             never = never;
             inside = inside;
           })
@@ -279,7 +289,6 @@ module _ (n : ℕ) (s : PoisonState) (p : Paper) (g : Consistent n s p) where
             chain = chain-insert 0 n (run k 1) E (g .chain) (omega arith) (omega arith) (omega arith) (λ j x. rw (one-line-is k j x) c);
             split = λ j. inject-split (in-runs E j) (D j) (p .set j) (X j) (g .split j) ∙ rw (in-insert (run k 1) E j);
             apart = λ j. rw (in-insert (run k 1) E j) (inject-apart (in-runs E j) (D j) (X j) (g .apart j));
-            flag = g .flag;
             never = never;
             inside = inside;
           })
@@ -294,8 +303,7 @@ module _ (n : ℕ) (s : PoisonState) (p : Paper) (g : Consistent n s p) where
         chain = chain-cut 0 n (keeps k E) k E (g .chain);
         split = λ j. clear-split (in-runs E j) (D j) (p .set j) (eqb j k) (in-runs (lost k E) j) (g .split j) (gone j) ∙ rw (cutting j);
         apart = λ j. rw (cutting j) (clear-apart (in-runs E j) (D j) (eqb j k) (in-runs (lost k E) j) (g .apart j));
-        flag = rw (g .flag, g .same);
-        never = λ e j. rw (g .never (or-false-0 (p .ever) (some-run (lost k E)) e) j, no-run (lost k E) j (or-false-1 (p .ever) (some-run (lost k E)) e));
+        never = λ e j. rw (g .never (or-false-0 (s .overflow) (some-run (lost k (shapes (s .entries)))) e) j, no-run (lost k E) j (rw (g .same) at (or-false-1 (s .overflow) (some-run (lost k (shapes (s .entries)))) e)));
         inside = λ j e. g .inside j (and-true-0 (p .set j) (not (eqb j k)) e);
       }
     where
@@ -314,10 +322,4 @@ module _ (n : ℕ) (s : PoisonState) (p : Paper) (g : Consistent n s p) where
 -- a new list and a blank paper
 pub consistent-blank : (n : ℕ) → Consistent n empty blank-paper
 consistent-blank n =
-    record { same = refl; few = omega arith; chain = omega arith; split = λ k. refl; apart = λ k. refl; flag = refl; never = λ e k. refl; inside = λ k e. absurd (false≢true e) }
-
--- a run that was dropped has a line: where the flag was set for one, a line joined the dropped set
-pub dropped-run-has-a-line : (lo hi : ℕ) (rs : List Run) → Chain lo hi rs → some-run rs ≡ true → ((k : ℕ) × (in-runs rs k ≡ true))
-unfolding in-run
-dropped-run-has-a-line lo hi [] c e = absurd (false≢true e)
-dropped-run-has-a-line lo hi (r ∷ rs) c e = (r .start, simp (le-leb (r .start) (r .start) (omega arith), lt-ltb (r .start) (end r) (omega arith)))
+    record { same = refl; few = omega arith; chain = omega arith; split = λ k. refl; apart = λ k. refl; never = λ e k. refl; inside = λ k e. absurd (false≢true e) }

@@ -23,3 +23,4 @@ pub mod Records
 pub mod Neighbours
 pub mod Agreement
 pub mod Changes
+pub mod Drops

@@ -1,30 +1,29 @@
--- The paper of demand 3 (document 01, "Promises and how they are tried"): a set of damaged lines, paper entries, a dropped set and whether a
--- line ever joined that, fed the changes alone; what the list and the paper must have to do with each other; and every list of changes.
+-- The paper of demand 3 (document 01, "Promises and how they are tried"): a set of damaged lines, paper entries and a dropped set, fed the changes
+-- alone; what the list and the paper must have to do with each other; and every list of changes.
 use mathlib.Core.Path.{_≡_}
 use mathlib.Core.Bool.{Bool, true, false, not, _&&_, _||_, cond}
 use mathlib.Core.List.{List, [], _∷_}
 use Prim.Native.Nat.{ℕ, _+_, _-_, _<_}
 use lib.Dec.{leb, ltb, eqb}
 use lib.ListN.{length, take, drop, getD}
-use Rattle.poison.specs.Runs.{Run, run, in-run, in-runs, count, insert, insert-all, cut, room, uncovered, some-run, keeps, lost}
+use Rattle.poison.specs.Runs.{Run, run, in-run, in-runs, count, insert, insert-all, cut, room, uncovered, keeps, lost}
 use Rattle.poison.specs.State.{PoisonState, empty, shapes, damage-total}
 use Rattle.poison.specs.Report.{reportable, after-report}
 use Rattle.poison.specs.Inject.{after-inject, injects}
 use Rattle.poison.specs.Clear.{after-clear}
 use Rattle.poison.specs.LineTest.{line-test, answer-number}
 
--- `ever` says whether a line ever joined the dropped set: it is set where a run is dropped, and a run has a line (`dropped-run-has-a-line` of
--- proofs/Agreement.antt). The paper shares the rules on runs (`uncovered`, `keeps`, `lost`) with the list; `found-lines`, `found-ascending` and
--- `found-maximal` of proofs/Laws.antt say of the first, line by line, that it is document 01's.
+-- The paper shares the rules on runs (`uncovered`, `room`, `keeps`, `lost`, `cut`) with the list: both are document 01's one rule. That each is that rule
+-- is said line by line by proofs/Laws.antt: `found-lines`, `found-ascending`, `found-maximal`, `stored-first`, `dropped-when-full`, `dropped-by-clear`,
+-- `left-by-clear`.
 -- "It has the paper set, paper entries (start and length, ascending) and a dropped set, all empty at first."
 pub record Paper : Type 0 where
   pub set : ℕ → Bool
   pub entries : List Run
   pub dropped : ℕ → Bool
-  pub ever : Bool
 
 abbrev pub blank-paper : Paper
-blank-paper = record { set = λ k. false; entries = []; dropped = λ k. false; ever = false }
+blank-paper = record { set = λ k. false; entries = []; dropped = λ k. false }
 
 -- "its lines in no paper entry form maximal runs; ascending, each becomes a paper entry while there are fewer than 256; the others are dropped."
 abbrev pub fit : List Run → ℕ → ℕ → List Run
@@ -40,7 +39,6 @@ paper-report p a n =
       set = λ k. p .set k || in-run (run a n) k;
       entries = insert-all (fit (p .entries) a n) (p .entries);
       dropped = λ k. (p .dropped k || in-runs (unfit (p .entries) a n) k) && not (in-runs (fit (p .entries) a n) k);
-      ever = p .ever || some-run (unfit (p .entries) a n);
     }
 
 -- an Inject Poison answered 0000h. "its line, if in no paper entry, becomes one."
@@ -50,7 +48,6 @@ paper-inject p k =
       set = λ j. p .set j || in-run (run k 1) j;
       entries = cond (in-runs (p .entries) k) (p .entries) (insert (run k 1) (p .entries));
       dropped = λ j. p .dropped j && not (in-run (run k 1) j);
-      ever = p .ever;
     }
 
 -- a Clear Poison answered 0000h. "its line leaves the dropped set; a paper entry over it is replaced by its parts before and after, each if not
@@ -61,7 +58,6 @@ paper-clear p k =
       set = λ j. p .set j && not (eqb j k);
       entries = cut (keeps k (p .entries)) k (p .entries);
       dropped = λ j. (p .dropped j && not (eqb j k)) || in-runs (lost k (p .entries)) j;
-      ever = p .ever || some-run (lost k (p .entries));
     }
 
 -- what the list and the paper have to do with each other, on a device of n lines: demand 3 at this layer
@@ -69,7 +65,7 @@ pub record Agrees (n : ℕ) (s : PoisonState) (p : Paper) : Type 0 where
   pub entries : shapes (s .entries) ≡ p .entries
   pub apart : (i j k : ℕ) → i < j → j < length (s .entries) → in-run (getD (shapes (s .entries)) i (run 0 0)) k ≡ true → in-run (getD (shapes (s .entries)) j (run 0 0)) k ≡ false
   pub size : count (p .set) n ≡ damage-total s + count (p .dropped) n
-  pub flag : s .overflow ≡ p .ever
+  pub flag : (k : ℕ) → p .dropped k ≡ true → s .overflow ≡ true
   pub not-clean : (k : ℕ) → k < n → p .set k ≡ true → answer-number (line-test s k) ≡ 0 → ⊥
   pub inside : (k : ℕ) → p .set k ≡ true → k < n
   pub dropped-inside : (k : ℕ) → p .dropped k ≡ true → p .set k ≡ true
