@@ -5,4 +5,6 @@ pub mod Demand3
 pub mod Damage
 pub mod Ran
 pub mod KeptFirst
+pub mod Computing
+pub mod Builds
 pub mod Cases

@@ -4,4 +4,5 @@ pub mod Paper
 pub mod Demand3
 pub mod Damage
 pub mod Ran
+pub mod Builds
 pub mod Cases
