@@ -1,5 +1,6 @@
 -- The definitions that the theorems over lists of calls speak of.
 pub mod Calls
+pub mod Refusals
 pub mod Paper
 pub mod Demand3
 pub mod Damage

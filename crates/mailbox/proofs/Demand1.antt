@@ -1,21 +1,29 @@
--- Demand 1: what is refused gives nothing and changes nothing. Shown of the definitions that the contracts cite, for every command and for the two device-side
--- calls that change a device. (The contracts' own field `refused` says further that the code hands back the very same value.) Assumes nothing.
+-- Demand 1: what is refused gives nothing and changes nothing. Shown of the definitions that the contracts cite, for every command and for every device-side
+-- call that has a number. (The contracts' own field `refused` says further that the code hands back the very same value.) Assumes nothing.
 use mathlib.Core.Path.{_≡_, refl, ap, _∙_}
-use mathlib.Core.Bool.{Bool, true, false, cond}
+use mathlib.Core.Bool.{Bool, true, false, _&&_, cond}
 use mathlib.Core.List.{List, []}
 use Prim.Native.Nat.{ℕ, _+_}
+use native.Mathlib.Omega.{arith}
 use lib.Dec.{eqb, leb}
 use lib.ListN.{length}
 use Rattle.wire.specs.Wire.{field, part, splice, same}
 use Rattle.poison.specs.State.{PoisonState}
 use Rattle.poison.specs.Inject.{injects}
+use Rattle.poison.specs.LineTest.{answer-number}
+use Rattle.poison.specs.declared.line_test.LineTest.{LineTest}
+use Rattle.poison.specs.declared.line_test.LineTest.the-variants.{Clean, Damaged, Unknown}
 use Rattle.events.specs.Log.{LogState}
 use Rattle.events.proofs.Laws.{refused-report-changes-nothing, refused-clear-changes-nothing, refused-get-replies-nothing}
 use Rattle.mailbox.specs.State.{DeviceState, lines-of, with-logs, with-poison, state-of}
 use Rattle.mailbox.specs.declared.device.Device.{Device}
 use Rattle.mailbox.specs.declared.device.Answer.{Answer}
-use Rattle.mailbox.specs.Contracts.{Answered}
-use Rattle.mailbox.specs.Numbers.{mailbox-size}
+use Rattle.mailbox.specs.declared.device.Made.{Made}
+use Rattle.mailbox.specs.declared.device_calls.EventAnswer.{EventAnswer}
+use Rattle.mailbox.specs.declared.device_calls.MediaAnswer.{MediaAnswer}
+use Rattle.mailbox.specs.declared.device_calls.LineAnswer.{LineAnswer}
+use Rattle.mailbox.specs.Contracts.{Answered, Makes, EventDone, MediaDone, LineDone}
+use Rattle.mailbox.specs.Numbers.{mailbox-size, most-units, invalid-input}
 use Rattle.mailbox.specs.Commands.{admission}
 use Rattle.mailbox.specs.Outcome.{Reply, replied, no-reply, Outcome, reads, changes}
 use Rattle.mailbox.specs.Clock.{device-time, get-timestamp}
@@ -25,7 +33,7 @@ use Rattle.mailbox.specs.Identity.{identify}
 use Rattle.mailbox.specs.EventCommands.{get-event-records, clear-event-records}
 use Rattle.mailbox.specs.PoisonCommands.{ListChange, line-of, line-code, range-code, get-poison-list, inject-poison, clear-poison}
 use Rattle.mailbox.specs.Mailbox.{run-command, outcome, changes-list}
-use Rattle.mailbox.specs.DeviceCalls.{event-report, media-code, MediaOutcome, media-report}
+use Rattle.mailbox.specs.DeviceCalls.{new-device, MakeOutcome, make, event-report, media-code, MediaOutcome, media-report, LineOutcome, line-test}
 
 -- a number that is not 0 comes with no reply and the state as it was
 pub record Refuses (d : DeviceState) (o : Outcome) : Type 0 where
@@ -135,6 +143,25 @@ unfolding media-report
 media-refusal d time address n kind =
     either (NothingStored d) (eqb (media-code (lines-of d) address n kind) 0) (record { nothing = λ h. absurd (h refl) }) (record { nothing = λ h. (refl, refl, refl) }) .nothing
 
+record NothingTold (o : LineOutcome) : Type 0 where
+  nothing : (o .code ≡ 0 → ⊥) → (o .number ≡ 2) × (o .kind ≡ 0)
+
+-- Demand 1 for line test: a refused test answers Unknown, number 2, with type 0.
+pub line-refusal : (d : DeviceState) (address : ℕ) → (line-test d address .code ≡ 0 → ⊥) → (line-test d address .number ≡ 2) × (line-test d address .kind ≡ 0)
+unfolding line-test
+line-refusal d address =
+    either NothingTold (eqb (line-code (lines-of d) address) 0) (record { nothing = λ h. absurd (h refl) }) (record { nothing = λ h. (refl, refl) }) .nothing
+
+record OneUnit (o : MakeOutcome) : Type 0 where
+  one-unit : (o .code ≡ 0 → ⊥) → (o .code ≡ invalid-input) × (o .next ≡ new-device 1 0)
+
+-- A refused make gives 0002h, and beside it the new device of one volatile unit.
+pub make-refusal : (volatile persistent : ℕ) → (make volatile persistent .code ≡ 0 → ⊥)
+    → (make volatile persistent .code ≡ invalid-input) × (make volatile persistent .next ≡ new-device 1 0)
+unfolding make
+make-refusal volatile persistent =
+    either OneUnit (leb 1 (volatile + persistent) && leb (volatile + persistent) most-units) (record { one-unit = λ h. absurd (h refl) }) (record { one-unit = λ h. (refl, refl) }) .one-unit
+
 -- Demand 1 of the code: a command refused by `Device::command` has length 0, hands back the very same device and alters no byte of the reply buffer.
 pub refusal-unaltered : (d : Device) (op : ℕ) (p : List ℕ) (time : ℕ) (r : Answer) (before after : List ℕ)
     → Answered (outcome (state-of d) op p time (length before)) d r before after → (r .code ≡ 0 → ⊥)
@@ -143,3 +170,32 @@ unfolding splice
 refusal-unaltered d op p time r before after a h =
     let none : outcome (state-of d) op p time (length before) .reply ≡ [] = refusal (state-of d) op p time (length before) (λ z. h (a .code ∙ z)) .0 in
     (a .size ∙ ap length none, a .refused h, a .bytes ∙ ap (λ (bs : List ℕ). splice 0 bs before) none)
+
+-- Demand 1 of the code: an event report refused by `Device::event_report` answers not stored and hands back the very same device.
+pub event-unaltered : (d : Device) (time log : ℕ) (bytes : List ℕ) (r : EventAnswer) → EventDone (event-report (state-of d) time log bytes) d r
+    → (r .code ≡ 0 → ⊥) → (r .stored ≡ false) × (r .device ≡ d)
+event-unaltered d time log bytes r a h = (a .stored ∙ event-refusal (state-of d) time log bytes (λ z. h (a .code ∙ z)) .0, a .refused h)
+
+-- A media report refused by `Device::media_report` answers 0 lines stored and 0 dropped and hands back the very same device.
+pub media-unaltered : (d : Device) (time address n kind : ℕ) (r : MediaAnswer) → MediaDone (media-report (state-of d) time address n kind) d r
+    → (r .code ≡ 0 → ⊥) → (r .stored ≡ 0) × (r .dropped ≡ 0) × (r .device ≡ d)
+media-unaltered d time address n kind r a h =
+    let none = media-refusal (state-of d) time address n kind (λ z. h (a .code ∙ z)) in
+    (a .stored ∙ none .0, a .dropped ∙ none .1, a .refused h)
+
+-- only Unknown has number 2
+only-unknown : (t : LineTest) → answer-number t ≡ 2 → t ≡ Unknown
+only-unknown Clean e = absurd (omega arith)
+only-unknown (Damaged kind) e = absurd (omega arith)
+only-unknown Unknown e = refl
+
+-- A line test refused by `Device::line_test` answers Unknown.
+pub line-unknown : (d : Device) (address : ℕ) (r : LineAnswer) → LineDone (line-test (state-of d) address) r → (r .code ≡ 0 → ⊥) → r .answer ≡ Unknown
+line-unknown d address r a h = only-unknown (r .answer) (a .number ∙ line-refusal (state-of d) address (λ z. h (a .code ∙ z)) .0)
+
+-- A make refused by `Device::make` gives 0002h and hands out a new device of one volatile unit.
+pub make-one-unit : (volatile persistent : ℕ) (r : Made) → Makes (make volatile persistent) r → (r .code ≡ 0 → ⊥)
+    → (r .code ≡ invalid-input) × (state-of (r .device) ≡ new-device 1 0)
+make-one-unit volatile persistent r a h =
+    let one = make-refusal volatile persistent (λ z. h (a .code ∙ z)) in
+    (a .code ∙ one .0, a .next ∙ one .1)
