@@ -1,33 +1,95 @@
--- P1 to P10 of document 01 hold of the definitions: one statement over the table of `specs/Cases.antt`, by computation. Assumes nothing.
-use mathlib.Core.Path.{_≡_, refl}
-use mathlib.Core.List.{map, _∷_}
-use Rattle.wire.specs.Wire.{le, number, part, field, splice}
-use Rattle.poison.specs.Runs.{in-run, uncovered, keeps}
-use Rattle.poison.specs.Report.{with-drop, report-entries, lines-stored, lines-dropped}
-use Rattle.poison.specs.Report.{reportable}
-use Rattle.poison.specs.Range.{kept, sharing, record-bytes, records-bytes}
-use Rattle.events.specs.Log.{handle-of, bit, need}
-use Rattle.events.specs.Report as Event
-use Rattle.events.specs.Clear as Clear
-use Rattle.mailbox.specs.Commands.{commands, admission}
-use Rattle.mailbox.specs.Clock.{device-time}
-use Rattle.mailbox.specs.EventCommands.{clear-event-records}
-use Rattle.mailbox.specs.PoisonCommands.{line-code, range-code, inject-poison, clear-poison, list-flags, list-header, list-reply, get-poison-list}
-use Rattle.mailbox.specs.Mailbox.{run-command, outcome}
+-- P1 to P10 of document 01 hold of the definitions: one statement over the table of `specs/Cases.antt`, by computation. And calls lead from a new device to the
+-- devices that the table starts from: `full-reached`, `last-handle-reached`. Assumes nothing.
+use mathlib.Core.Path.{_≡_, refl, sym, ap, _∙_}
+use mathlib.Core.Bool.{Bool, true, cond}
+use mathlib.Core.List.{List, [], _∷_, map}
+use Prim.Native.Nat.{ℕ, zero, suc, _+_, _≤_, _<_}
+use native.Mathlib.Nat.{add-zero}
+use native.Mathlib.Omega.{arith}
+use borrow.Author.Tests.{eq-eqb, lt-ltb}
+use lib.Dec.{eqb}
+use lib.ListN.{length, set, replicate}
+use Rattle.wire.specs.Wire.{le, field}
+use Rattle.events.specs.Log.{handle-of, log-at}
+use Rattle.events.specs.Report.{stamped, handle-after}
+use Rattle.events.specs.Clear.{mismatch-code, clear-log-code}
+use Rattle.events.specs.declared.clear.Mismatch.the-variants.{At, Nowhere}
+use Rattle.events.proofs.Handles.{handle-stamped}
+use Rattle.events.proofs.Codes.{clear-log-taken}
+use Rattle.mailbox.specs.State.{DeviceState, with-logs}
 use Rattle.mailbox.specs.DeviceCalls as Device
 use Rattle.history.specs.Calls.{media-report, step, after}
-use Rattle.history.specs.Cases.{new-unit, injections, full, cases, given-of, stated-of, example, example-output}
+use Rattle.history.specs.Cases.{new-unit, event, clear-events, giving, last-handle, use-handles, injections, full, cases, given-of, stated-of, example, example-output}
+use Rattle.history.proofs.Computing.{rules}
 
+-- every row of the table: what the definitions give is what the document says
 pub cases-hold : map given-of cases ≡ map stated-of cases
-unfolding cases full step outcome run-command admission commands le number part field splice in-run uncovered keeps with-drop report-entries reportable sharing kept record-bytes records-bytes handle-of bit need Event.event-report Event.report-code Event.has-room Event.stamped Event.handle-after Event.reported Clear.clear-event-records Clear.clear-code Clear.mismatch Clear.clear-log-code Clear.without Clear.clear-size Clear.clear-log Clear.handles-at Clear.all-flag device-time clear-event-records line-code range-code inject-poison clear-poison list-flags list-header list-reply get-poison-list Device.make Device.event-report Device.media-report Device.media-code Device.line-test
+unfolding cases full rules
 cases-hold = refl
 
 -- the list of 256 entries that P7 to P10 start from is the one that a report and 255 injections make of a new device
 pub full-reached : after new-unit (media-report 0 64000 3 2 ∷ injections 255) ≡ full
-unfolding full step outcome run-command admission commands le number part field splice in-run uncovered keeps with-drop report-entries reportable sharing kept record-bytes records-bytes handle-of bit need Event.event-report Event.report-code Event.has-room Event.stamped Event.handle-after Event.reported Clear.clear-event-records Clear.clear-code Clear.mismatch Clear.clear-log-code Clear.without Clear.clear-size Clear.clear-log Clear.handles-at Clear.all-flag device-time clear-event-records line-code range-code inject-poison clear-poison list-flags list-header list-reply get-poison-list Device.make Device.event-report Device.media-report Device.media-code Device.line-test
+unfolding full rules
 full-reached = refl
 
 -- the worked example: the definitions give the document's output
 pub example-holds : example ≡ example-output
-unfolding example example-output step outcome run-command admission commands le number part field splice in-run uncovered keeps with-drop report-entries reportable sharing kept record-bytes records-bytes handle-of bit need Event.event-report Event.report-code Event.has-room Event.stamped Event.handle-after Event.reported Clear.clear-event-records Clear.clear-code Clear.mismatch Clear.clear-log-code Clear.without Clear.clear-size Clear.clear-log Clear.handles-at Clear.all-flag device-time clear-event-records line-code range-code inject-poison clear-poison list-flags list-header list-reply get-poison-list Device.make Device.event-report Device.media-report Device.media-code Device.line-test lines-stored lines-dropped
+unfolding example example-output rules
 example-holds = refl
+
+-- ---- the device that P3 starts from
+-- the record of an event
+zeros : List ℕ
+zeros = replicate 128 0
+
+zeros-size : length zeros ≡ 128
+unfolding zeros
+zeros-size = refl
+
+-- log 0 holds one record and gives handle n next
+abbrev holding : List ℕ → ℕ → DeviceState
+holding r n = with-logs new-unit (set (new-unit .logs) 0 (record { held = r ∷ []; next = n; overflow-count = 0; first-overflow = 0; last-overflow = 0 }))
+
+-- an event is stored with the next handle
+event-stored : (h : ℕ) → step (giving h) event .next ≡ holding (stamped zeros h 0) (handle-after h)
+unfolding rules zeros
+event-stored h = refl
+
+-- the payload that clears handle h of log 0, and the handle that it carries
+abbrev clearing : ℕ → List ℕ
+clearing h = 0 ∷ 0 ∷ 1 ∷ 0 ∷ 0 ∷ 0 ∷ le 2 h
+
+handle-carried : (h : ℕ) → h < 65536 → field (clearing h) 6 2 ≡ h
+unfolding rules
+handle-carried h less = omega arith
+
+-- a record whose handle the clear names goes
+event-cleared : (r : List ℕ) (h n : ℕ) → handle-of r ≡ h → h < 65536 → step (holding r n) (clear-events 0 (h ∷ [])) .next ≡ giving n
+unfolding rules
+event-cleared r h n e less =
+    let named : eqb (handle-of r) (field (clearing h) 6 2) ≡ true = eq-eqb (handle-of r) (field (clearing h) 6 2) (e ∙ sym (handle-carried h less)) in
+    let code : clear-log-code (log-at (holding r n .logs) 0) (clearing h) ≡ 0 = ap (λ (b : Bool). mismatch-code (cond b Nowhere (At 0))) named in
+    rw (clear-log-taken (log-at (holding r n .logs) 0) (clearing h) code)
+
+-- the two calls use up one handle
+handle-used : (h : ℕ) → 1 ≤ h → h < 65535 → after (giving h) (event ∷ clear-events 0 (h ∷ []) ∷ []) ≡ giving (h + 1)
+unfolding handle-after
+handle-used h low less =
+    let next : handle-after h ≡ h + 1 = rw (lt-ltb h 65535 less) in
+    ap (λ (d : DeviceState). step d (clear-events 0 (h ∷ [])) .next) (event-stored h)
+    ∙ event-cleared (stamped zeros h 0) h (handle-after h) (handle-stamped zeros h 0 zeros-size (omega arith)) (omega arith)
+    ∙ ap giving next
+
+-- n handles from h on, used up
+handles-used : (n h : ℕ) → 1 ≤ h → h + n ≤ 65535 → after (giving h) (use-handles h n) ≡ giving (h + n)
+unfolding use-handles
+handles-used zero h low high = ap giving (sym (add-zero h))
+handles-used (suc n) h low high =
+    ap (λ (d : DeviceState). after d (use-handles (h + 1) n)) (handle-used h low (omega arith))
+    ∙ handles-used n (h + 1) (omega arith) (omega arith)
+    ∙ ap giving (omega arith)
+
+-- the device whose log 0 gives handle 65,535 next, from which P3 starts, is the one that 65,534 events and their clearings make of a new device
+pub last-handle-reached : after new-unit (use-handles 1 65534) ≡ last-handle
+unfolding Device.make
+last-handle-reached = handles-used 65534 1 (omega arith) (omega arith)

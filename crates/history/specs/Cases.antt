@@ -63,9 +63,22 @@ injections (suc n) = inject (n * 2) ∷ injections n
 abbrev pub handles-of : DeviceState → List ℕ
 handles-of d = map handle-of (log-at (d .logs) 0 .held)
 
--- a device whose log 0 gives handle 65,535 next
+-- a new device but for log 0, which gives handle h next
+abbrev pub giving : ℕ → DeviceState
+giving h = with-logs new-unit (set (new-unit .logs) 0 (record { held = []; next = h; overflow-count = 0; first-overflow = 0; last-overflow = 0 }))
+
+-- a device whose log 0 gives handle 65,535 next (`last-handle-reached` of proofs/Cases.antt: calls lead there)
 abbrev pub last-handle : DeviceState
-last-handle = with-logs new-unit (set (new-unit .logs) 0 (record { held = []; next = 65535; overflow-count = 0; first-overflow = 0; last-overflow = 0 }))
+last-handle = giving 65535
+
+-- n handles used up, from h on: an event, then the Clear Event Records of its handle
+unfoldable pub use-handles : ℕ → ℕ → List Call
+use-handles h zero = []
+use-handles h (suc n) = event ∷ clear-events 0 (h ∷ []) ∷ use-handles (h + 1) n
+
+-- what the line test answers of a line: its number, the answer's number and the type beside it
+abbrev pub told : DeviceState → ℕ → List ℕ
+told d line = Device.line-test d (line * 64) .code ∷ Device.line-test d (line * 64) .number ∷ Device.line-test d (line * 64) .kind ∷ []
 
 -- ---- the table
 pub record Case : Type 0 where
@@ -104,13 +117,20 @@ cases =
     ∷ Device.damage-total full
     ∷ Device.damage-total (step full (clear 1001) .next)
     ∷ number-of (step full (clear 1001) .next .poison .overflow)
-    ∷ Device.line-test (step full (clear 1001) .next) (1002 * 64) .number
     ∷ [])
-    (0 ∷ 258 ∷ 256 ∷ 1 ∷ 2 ∷ [])
+    (0 ∷ 258 ∷ 256 ∷ 1 ∷ [])
+    -- P8, its lines: the first still damaged, of type 2; the middle and the third Unknown, for the flag is set
+    ∷ case
+    (told (step full (clear 1001) .next) 1000 ++ (told (step full (clear 1001) .next) 1001 ++ told (step full (clear 1001) .next) 1002))
+    ((0 ∷ 1 ∷ 2 ∷ []) ++ ((0 ∷ 2 ∷ 0 ∷ []) ++ (0 ∷ 2 ∷ 0 ∷ [])))
     -- P9 clear its first line: nothing dropped
     ∷ case
     (step full (clear 1000) .code ∷ Device.damage-total (step full (clear 1000) .next) ∷ number-of (step full (clear 1000) .next .poison .overflow) ∷ [])
     (0 ∷ 257 ∷ 0 ∷ [])
+    -- P9, its lines: the first Clean; the others still damaged, of type 2
+    ∷ case
+    (told (step full (clear 1000) .next) 1000 ++ (told (step full (clear 1000) .next) 1001 ++ told (step full (clear 1000) .next) 1002))
+    ((0 ∷ 0 ∷ 0 ∷ []) ++ ((0 ∷ 1 ∷ 2 ∷ []) ++ (0 ∷ 1 ∷ 2 ∷ [])))
     -- P10 range of 0 lines at the device's end: no records (number, length of the reply, its record count)
     ∷ case
     (outcome full 0x4300 (le 8 (lines-of full * 64) ++ le 8 0) 0 2048 .code
@@ -142,7 +162,9 @@ example =
     ∷ (outcome reported 0x4302 (le 8 192 ++ replicate 64 0) 0 2048 .code ∷ length (outcome reported 0x4302 (le 8 192 ++ replicate 64 0) 0 2048 .reply) ∷ [])
     ∷ (Device.line-test cleared 192 .code ∷ Device.line-test cleared 192 .number ∷ Device.line-test cleared 192 .kind ∷ [])
     ∷ (Device.line-test cleared 128 .code ∷ Device.line-test cleared 128 .number ∷ Device.line-test cleared 128 .kind ∷ [])
-    ∷ outcome cleared 0x4300 (le 8 0 ++ le 8 16) 0 2048 .reply
+    ∷ (outcome cleared 0x4300 (le 8 0 ++ le 8 16) 0 2048 .code
+    ∷ length (outcome cleared 0x4300 (le 8 0 ++ le 8 16) 0 2048 .reply)
+    ∷ outcome cleared 0x4300 (le 8 0 ++ le 8 16) 0 2048 .reply)
     ∷ []
 
 -- what the document prints: "ten zero bytes, 02 00, twenty zero bytes, two records"
@@ -153,5 +175,5 @@ example-output =
     ∷ (0 ∷ 0 ∷ [])
     ∷ (0 ∷ 0 ∷ 0 ∷ [])
     ∷ (0 ∷ 1 ∷ 2 ∷ [])
-    ∷ (replicate 10 0 ++ ((2 ∷ 0 ∷ []) ++ (replicate 20 0 ++ ((0x82 ∷ 0 ∷ 0 ∷ 0 ∷ 0 ∷ 0 ∷ 0 ∷ 0 ∷ 1 ∷ 0 ∷ 0 ∷ 0 ∷ 0 ∷ 0 ∷ 0 ∷ 0 ∷ []) ++ (2 ∷ 1 ∷ 0 ∷ 0 ∷ 0 ∷ 0 ∷ 0 ∷ 0 ∷ 1 ∷ 0 ∷ 0 ∷ 0 ∷ 0 ∷ 0 ∷ 0 ∷ 0 ∷ [])))))
+    ∷ (0 ∷ 64 ∷ replicate 10 0 ++ ((2 ∷ 0 ∷ []) ++ (replicate 20 0 ++ ((0x82 ∷ 0 ∷ 0 ∷ 0 ∷ 0 ∷ 0 ∷ 0 ∷ 0 ∷ 1 ∷ 0 ∷ 0 ∷ 0 ∷ 0 ∷ 0 ∷ 0 ∷ 0 ∷ []) ++ (2 ∷ 1 ∷ 0 ∷ 0 ∷ 0 ∷ 0 ∷ 0 ∷ 0 ∷ 1 ∷ 0 ∷ 0 ∷ 0 ∷ 0 ∷ 0 ∷ 0 ∷ 0 ∷ [])))))
     ∷ []
