@@ -1,6 +1,6 @@
 -- No build with one of the faults of specs/Builds.antt meets the contracts: one that refuses all, one with a fixed reply, one that changes nothing, one that
 -- keeps the first report. The witnesses are devices that the build itself hands out, from make 1 0 on, and the definitions computed there. Assumes nothing.
-use Prim.Native.Nat.{ℕ, _*_, _<_}
+use Prim.Native.Nat.{ℕ, zero, suc, _*_, _<_}
 use mathlib.Core.Path.{_≡_, refl, sym, ap, ap₂, _∙_, subst}
 use mathlib.Core.Bool.{Bool, true, false, _&&_, _||_, cond}
 use mathlib.Core.List.{List, [], _∷_, _++_}
@@ -10,6 +10,7 @@ use lib.Dec.{eqb, ltb}
 use lib.ListN.{length, take, getD, replicate}
 use Rattle.poison.specs.Runs.{total}
 use Rattle.poison.specs.State.{shapes, damage-total}
+use Rattle.poison.specs.LineTest.{answer-number}
 use Rattle.events.specs.Log.{LogState, log-at}
 use Rattle.mailbox.specs.State.{DeviceState, ValidDevice, state-of}
 use Rattle.mailbox.specs.declared.device.Device.{Device}
@@ -19,7 +20,7 @@ use Rattle.mailbox.specs.Outcome.{Outcome}
 use Rattle.mailbox.specs.Mailbox.{outcome}
 use Rattle.mailbox.specs.DeviceCalls as Device
 use Rattle.wire.specs.Wire.{splice}
-use Rattle.history.specs.Builds.{all-bytes, Slice, MakeAsked, CommandAsked, EventAsked, MediaAsked, LineAsked, Build, Handed, by-make, by-command, by-event-report, by-media-report, Meets, RefusesAll, RefusesOne, every-make, every-command, every-event-report, every-media-report, every-line-test, reply-of, FixedReply, among, telling, TellsNothing, ChangesNothing, changing, LeavesOne, KeepsFirst, of-media, of-events}
+use Rattle.history.specs.Builds.{all-bytes, Slice, MakeAsked, CommandAsked, EventAsked, MediaAsked, LineAsked, Build, Handed, by-make, by-command, by-event-report, by-media-report, Meets, RefusesAll, RefusesOne, every-make, every-command, every-event-report, every-media-report, every-line-test, reply-of, FixedReply, among, telling, TellsNothing, of-command, of-event-report, of-media-report, of-line-test, of-event-status, of-damage-total, ChangesNothing, changing, LeavesOne, KeepsFirst, of-media, of-events}
 use Rattle.history.proofs.Computing.{rules}
 
 -- ---- arguments
@@ -27,7 +28,8 @@ use Rattle.history.proofs.Computing.{rules}
 abbrev short : List ℕ → Bool
 short xs = all-bytes xs && ltb (length xs) 2049
 
-both-true : (x y : Bool) → (x && y) ≡ true → (x ≡ true) × (y ≡ true)
+-- two tests that hold together
+pub both-true : (x y : Bool) → (x && y) ≡ true → (x ≡ true) × (y ≡ true)
 both-true true y e = (refl, e)
 both-true false y e = absurd (let z : _≡_ {A = ℕ} 0 1 = cc in omega arith)
 
@@ -127,6 +129,24 @@ module _ {b : Build} (m : Meets b) where
     line-code : (a : LineAsked) → b .line-test (p .device) a .code ≡ Device.line-test s (a .address) .code
     line-code a = m .line-test (p .device) (p .handed) (p .valid) a .code ∙ ap (λ x. Device.line-test x (a .address) .code) (p .view)
 
+    -- lines stored, whether an event is stored, what a line test, event status and damage total say
+    event-stored : (a : EventAsked) → b .event-report (p .device) a .stored ≡ Device.event-report s (a .time) (a .log) (a .event) .stored
+    event-stored a = m .event-report (p .device) (p .handed) (p .valid) a .stored ∙ ap (λ x. Device.event-report x (a .time) (a .log) (a .event) .stored) (p .view)
+
+    media-stored : (a : MediaAsked) → b .media-report (p .device) a .stored ≡ Device.media-report s (a .time) (a .address) (a .lines) (a .kind) .stored
+    media-stored a =
+        m .media-report (p .device) (p .handed) (p .valid) a .stored
+        ∙ ap (λ x. Device.media-report x (a .time) (a .address) (a .lines) (a .kind) .stored) (p .view)
+
+    line-number : (a : LineAsked) → answer-number (b .line-test (p .device) a .answer) ≡ Device.line-test s (a .address) .number
+    line-number a = m .line-test (p .device) (p .handed) (p .valid) a .number ∙ ap (λ x. Device.line-test x (a .address) .number) (p .view)
+
+    status-bits : b .event-status (p .device) .bits ≡ Device.event-status s .bits
+    status-bits = m .event-status (p .device) (p .handed) (p .valid) .bits ∙ ap (λ x. Device.event-status x .bits) (p .view)
+
+    total-given : b .damage-total (p .device) ≡ Device.damage-total s
+    total-given = m .damage-total (p .device) (p .handed) (p .valid) ∙ ap Device.damage-total (p .view)
+
 -- ---- the calls of the witnesses
 -- make 1 0, make 2 0
 abbrev one-unit : MakeAsked
@@ -146,6 +166,16 @@ damage line h =
 abbrev first-line : LineAsked
 first-line = record { address = 0; address-u64 = omega arith }
 
+-- a device of one unit after n events to log 0
+abbrev after-events : ℕ → DeviceState
+after-events zero = Device.make 1 0 .next
+after-events (suc n) = Device.event-report (after-events n) 0 0 (replicate 128 0) .next
+
+-- the build leads there
+events-reported : {b : Build} (m : Meets b) (n : ℕ) → At b (after-events n)
+events-reported m zero = made m one-unit
+events-reported m (suc n) = event-reported m (events-reported m n) an-event
+
 -- ---- one that refuses all
 -- a payload with which a command of the opcode is answered 0000h by a new device
 record Succeeds (opcode : ℕ) : Type 0 where
@@ -162,6 +192,7 @@ one-of P n k rest h r = go (eqb n k) refl
     go true q e = subst P (sym (eqb-true n k q)) h
     go false q e = r e
 
+-- a test that fails does not hold: the end of a list of cases
 none-of : {A : Type 0} → false ≡ true → A
 none-of e = absurd (let z : _≡_ {A = ℕ} 0 1 = cc in omega arith)
 
@@ -204,6 +235,7 @@ pub refuses-all-fails : (b : Build) → RefusesAll b → Meets b → ⊥
 refuses-all-fails b f = refuses-one-fails b (every-make (f .make))
 
 -- ---- numbers that differ
+-- numbers that a test tells apart are not equal
 differ : {x y : ℕ} → eqb x y ≡ false → x ≡ y → ⊥
 differ {x} {y} d e = none-of (sym d ∙ eq-eqb x y e)
 
@@ -226,8 +258,8 @@ record Told (b : Build) (opcode : ℕ) : Type 0 where
   place : ℕ
   apart : eqb (getD (written left-view opcode payload) place 0) (getD (written right-view opcode payload) place 0) ≡ false
 
--- the witnesses, against a new device of one unit and with a payload of zeros: an event in log 0 (0100h, record count at 20); log 0 enabled (0102h); the clock
--- set to 1 (0300h); a device of two units (4000h, total units at 16); damage at line 0 (4300h, record count at 10, of a range of one line)
+-- the witnesses, each against a new device of one unit: an event in log 0 (0100h of log 0, record count at 20); log 0 enabled (0102h); the clock set to 1
+-- (0300h); a device of two units (4000h, total units at 16); damage at line 0 (4300h of that line, record count at 10)
 tells : (b : Build) → Meets b → (n : ℕ) → among telling n ≡ true → Told b n
 unfolding rules
 tells b m n =
@@ -259,19 +291,41 @@ tells b m n =
           apart = apart;
         }
 
--- A build that replies to one of the commands that tell of the device the same bytes whatever device is asked does not meet the contracts.
+-- A build in which one kind of call, be it only the commands of one opcode that tell of the device, answers the same whatever device is asked does not meet
+-- the contracts. The other witnesses, against a new device of one unit: an event to log 0 after eight of them; damage at line 0 after the same damage; a test of
+-- line 0 after damage there; event status after an event; damage total after damage.
 pub tells-nothing-fails : (b : Build) → TellsNothing b → Meets b → ⊥
-tells-nothing-fails b f m =
-    let w = tells b m (f .opcode) (f .tells) in
-    let a = asks (f .opcode) (w .payload) (w .small) (w .lent) in
-    let same = f .fixed (w .left .device) (w .right .device) (w .left .handed) (w .right .handed) a refl (command-code m (w .left) a ∙ w .left-code) (command-code m (w .right) a ∙ w .right-code) in
+unfolding rules
+tells-nothing-fails b (of-command opcode k f) m =
+    let w = tells b m opcode k in
+    let a = asks opcode (w .payload) (w .small) (w .lent) in
+    let same = f (w .left .device) (w .right .device) (w .left .handed) (w .right .handed) a refl (command-code m (w .left) a ∙ w .left-code) (command-code m (w .right) a ∙ w .right-code) in
     differ (w .apart) (ap (λ (bytes : List ℕ). getD bytes (w .place) 0) (sym (command-reply m (w .left) a) ∙ same ∙ command-reply m (w .right) a))
+tells-nothing-fails b (of-event-report f) m =
+    let new = made m one-unit in
+    let full = events-reported m 8 in
+    none-of (sym (event-stored m full an-event) ∙ f (full .device) (new .device) (full .handed) (new .handed) an-event ∙ event-stored m new an-event)
+tells-nothing-fails b (of-media-report f) m =
+    let new = made m one-unit in
+    let a = damage 0 (omega arith) in
+    let damaged = media-reported m new a in
+    differ {x = 1} {y = 0} refl (sym (media-stored m new a) ∙ f (new .device) (damaged .device) (new .handed) (damaged .handed) a ∙ media-stored m damaged a)
+tells-nothing-fails b (of-line-test f) m =
+    let new = made m one-unit in
+    let damaged = media-reported m new (damage 0 (omega arith)) in
+    differ {x = 0} {y = 1} refl (sym (line-number m new first-line) ∙ f (new .device) (damaged .device) (new .handed) (damaged .handed) first-line ∙ line-number m damaged first-line)
+tells-nothing-fails b (of-event-status f) m =
+    let new = made m one-unit in
+    let one = event-reported m new an-event in
+    differ {x = 0} {y = 1} refl (sym (status-bits m new) ∙ f (new .device) (one .device) (new .handed) (one .handed) ∙ status-bits m one)
+tells-nothing-fails b (of-damage-total f) m =
+    let new = made m one-unit in
+    let damaged = media-reported m new (damage 0 (omega arith)) in
+    differ {x = 0} {y = 1} refl (sym (total-given m new) ∙ f (new .device) (damaged .device) (new .handed) (damaged .handed) ∙ total-given m damaged)
 
 -- A build with a fixed reply does not meet the contracts.
 pub fixed-reply-fails : (b : Build) → FixedReply b → Meets b → ⊥
-fixed-reply-fails b f =
-    tells-nothing-fails b
-    (record { opcode = 0x4000; tells = refl; fixed = λ d e hd he a _ cd ce. f .fixed d hd a cd ∙ sym (f .fixed e he a ce) })
+fixed-reply-fails b f = tells-nothing-fails b (of-command 0x4000 refl (λ d e hd he a _ cd ce. f .fixed d hd a cd ∙ sym (f .fixed e he a ce)))
 
 -- ---- one that changes nothing
 -- what can be seen of a device: the records in log 0, the setting of log 0, whether the clock is set, the damage total
@@ -313,7 +367,7 @@ changes b m n =
         → eqb (seen (outcome s opcode payload 0 2048 .next)) (seen s) ≡ false → Changed b opcode
     seeing opcode payload small lent {s} p seen apart = record { payload = payload; small = small; lent = lent; view = s; start = p; seen = seen; apart = apart }
 
--- a device whose view after a call is its view before it, though a number seen of the two differs
+-- no number that differs before and after a call by the definitions is the same of the two devices
 unchanged : {b : Build} (seen : DeviceState → ℕ) {s t : DeviceState} (p : At b s) (q : At b t) → eqb (seen t) (seen s) ≡ false
     → seen (state-of (q .device)) ≡ seen (state-of (p .device)) → ⊥
 unchanged seen p q d e = differ d (ap seen (sym (q .view)) ∙ e ∙ ap seen (p .view))

@@ -7,4 +7,5 @@ pub mod Ran
 pub mod KeptFirst
 pub mod Computing
 pub mod Builds
+pub mod SomeBuild
 pub mod Cases

@@ -1,12 +1,14 @@
 -- The four useless builds of document 01, "Promises and how they are tried", as faults of ANY build: functions from the code's own devices and arguments to
 -- the code's own answers. `Meets` is the contracts of the public functions of crate `mailbox` (src/device.rt, src/device_calls.rt), equation by equation, and
--- asks no more than they give, so that the functions of `mailbox` meet it by their contracts. proofs/Builds.antt: no build with such a fault meets it.
+-- asks no more than they give, so that the functions of `mailbox` meet it by their contracts. proofs/Builds.antt: no build with such a fault meets it;
+-- proofs/SomeBuild.antt: some build meets it.
 use Prim.Native.Nat.{ℕ, _^_, _<_}
 use mathlib.Core.Path.{_≡_}
 use mathlib.Core.Bool.{Bool, true, false, _&&_, _||_}
 use mathlib.Core.List.{List, [], _∷_}
 use lib.Dec.{ltb, eqb}
 use lib.ListN.{length, take}
+use Rattle.poison.specs.LineTest.{answer-number}
 use Rattle.events.specs.Log.{log-at}
 use Rattle.events.specs.declared.status.Status.{Status}
 use Rattle.mailbox.specs.State.{ValidDevice, state-of}
@@ -149,12 +151,17 @@ among (x ∷ xs) n = eqb n x || among xs n
 abbrev pub telling : List ℕ
 telling = 0x0100 ∷ 0x0102 ∷ 0x0300 ∷ 0x4000 ∷ 0x4300 ∷ []
 
--- less of a fault: for one of these opcodes, the same question gets the same reply whatever device is asked
-pub record TellsNothing (b : Build) : Type 0 where
-  pub opcode : ℕ
-  pub tells : among telling opcode ≡ true
-  pub fixed : (d e : Device) → Handed b d → Handed b e → (a : CommandAsked) → a .opcode ≡ opcode
-      → b .command d a .answer .code ≡ 0 → b .command e a .answer .code ≡ 0 → reply-of (b .command d a) ≡ reply-of (b .command e a)
+-- less of a fault: one kind of call, be it only the commands of one of these opcodes, answers the same question in the same way whatever device is asked. (Of a
+-- report and of a line test the fault is in one number of the answer alone.)
+pub data TellsNothing (b : Build) : Type 0 where
+  of-command : (opcode : ℕ) → among telling opcode ≡ true
+      → ((d e : Device) → Handed b d → Handed b e → (a : CommandAsked) → a .opcode ≡ opcode → b .command d a .answer .code ≡ 0 → b .command e a .answer .code ≡ 0
+      → reply-of (b .command d a) ≡ reply-of (b .command e a)) → TellsNothing b
+  of-event-report : ((d e : Device) → Handed b d → Handed b e → (a : EventAsked) → b .event-report d a .stored ≡ b .event-report e a .stored) → TellsNothing b
+  of-media-report : ((d e : Device) → Handed b d → Handed b e → (a : MediaAsked) → b .media-report d a .stored ≡ b .media-report e a .stored) → TellsNothing b
+  of-line-test : ((d e : Device) → Handed b d → Handed b e → (a : LineAsked) → answer-number (b .line-test d a .answer) ≡ answer-number (b .line-test e a .answer)) → TellsNothing b
+  of-event-status : ((d e : Device) → Handed b d → Handed b e → b .event-status d .bits ≡ b .event-status e .bits) → TellsNothing b
+  of-damage-total : ((d e : Device) → Handed b d → Handed b e → b .damage-total d ≡ b .damage-total e) → TellsNothing b
 
 -- "one that changes nothing": every device handed back is the one given
 pub record ChangesNothing (b : Build) : Type 0 where
