@@ -1,3 +1,4 @@
 -- The laws of crate `wire` that more than one proof cites, by subject.
 pub mod Laws
 pub mod Splice
+pub mod Examples
