@@ -16,7 +16,7 @@ use Rattle.poison.specs.Inject.{after-inject}
 use Rattle.poison.specs.Clear.{after-clear}
 use Rattle.poison.specs.Paper.{Paper, blank-paper, paper-report, paper-inject, paper-clear, report, clear, fit, unfit, blank, Agrees}
 use Rattle.poison.specs.declared.line_test.LineTest.the-variants.{Clean, Damaged, Unknown}
-use Rattle.poison.proofs.Counts.{count-cong, count-or, count-chain, chain-low, Place, low, mid, high, place}
+use Rattle.poison.proofs.Counts.{or-left, or-right, count-cong, count-or, count-chain, chain-low, Place, low, mid, high, place}
 use Rattle.poison.proofs.RunLaws.{in-runs-of, chain-runs-of, in-insert, chain-insert, length-insert, in-insert-all, length-insert-all, chain-insert-all, in-append, chain-take, in-cut, chain-cut, few-cut, after-within}
 use Rattle.poison.proofs.Shapes.{shapes-entry, shapes-insert, shapes-insert-all, shapes-cut}
 
@@ -116,14 +116,6 @@ media-apart false false d u x p q = refl
 no-run : (rs : List Run) (k : ℕ) → some-run rs ≡ false → in-runs rs k ≡ false
 no-run [] k e = refl
 no-run (r ∷ rs) k e = absurd (true≢false e)
-
-or-false-0 : (a b : Bool) → (a || b) ≡ false → a ≡ false
-or-false-0 true b e = e
-or-false-0 false b e = refl
-
-or-false-1 : (a b : Bool) → (a || b) ≡ false → b ≡ false
-or-false-1 true b e = absurd (true≢false e)
-or-false-1 false b e = e
 
 -- the runs stored and the runs dropped have the uncovered lines of the extent
 stored-or-dropped : (xs : List Run) (a l k : ℕ) → (in-runs (fit xs a l) k || in-runs (unfit xs a l) k) ≡ (in-run (run a l) k && not (in-runs xs k))
@@ -229,7 +221,7 @@ module _ (n : ℕ) (s : PoisonState) (p : Paper) (g : Consistent n s p) where
         chain = chain-insert-all 0 n a (a + l) (fit E a l) E (g .chain) (chain-fit E a l) (omega arith) h free;
         split = λ k. media-split (in-runs E k) (in-runs (fit E a l) k) (p .dropped k) (in-runs (unfit E a l) k) (p .set k) (in-run (run a l) k) (g .split k) (stored-or-dropped E a l k) ∙ rw (in-insert-all (fit E a l) E k);
         apart = λ k. rw (in-insert-all (fit E a l) E k) (media-apart (in-runs E k) (in-runs (fit E a l) k) (p .dropped k) (in-runs (unfit E a l) k) (in-run (run a l) k) (g .apart k) (stored-or-dropped E a l k));
-        never = λ e k. rw (g .never (or-false-0 (s .overflow) (some-run (dropped-runs (s .entries) a l)) e) k, no-run (unfit E a l) k (sym (same-dropped s E a l (g .same)) ∙ or-false-1 (s .overflow) (some-run (dropped-runs (s .entries) a l)) e));
+        never = λ e k. rw (g .never (or-left (s .overflow) (some-run (dropped-runs (s .entries) a l)) e) k, no-run (unfit E a l) k (sym (same-dropped s E a l (g .same)) ∙ or-right (s .overflow) (some-run (dropped-runs (s .entries) a l)) e));
         inside = λ k e. or-elim (p .set k) (in-run (run a l) k) (λ x. g .inside k x) (λ x. in-run-inside a l k n h x) e;
       }
     where
@@ -303,7 +295,7 @@ module _ (n : ℕ) (s : PoisonState) (p : Paper) (g : Consistent n s p) where
         chain = chain-cut 0 n (keeps k E) k E (g .chain);
         split = λ j. clear-split (in-runs E j) (D j) (p .set j) (eqb j k) (in-runs (lost k E) j) (g .split j) (gone j) ∙ rw (cutting j);
         apart = λ j. rw (cutting j) (clear-apart (in-runs E j) (D j) (eqb j k) (in-runs (lost k E) j) (g .apart j));
-        never = λ e j. rw (g .never (or-false-0 (s .overflow) (some-run (lost k (shapes (s .entries)))) e) j, no-run (lost k E) j (rw (g .same) at (or-false-1 (s .overflow) (some-run (lost k (shapes (s .entries)))) e)));
+        never = λ e j. rw (g .never (or-left (s .overflow) (some-run (lost k (shapes (s .entries)))) e) j, no-run (lost k E) j (rw (g .same) at (or-right (s .overflow) (some-run (lost k (shapes (s .entries)))) e)));
         inside = λ j e. g .inside j (and-true-0 (p .set j) (not (eqb j k)) e);
       }
     where

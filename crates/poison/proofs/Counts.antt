@@ -9,6 +9,15 @@ use borrow.Author.Tests.{lt-ltb, le-ltb, le-leb, lt-leb, ltb-true, ltb-false, le
 use lib.Dec.{leb, ltb}
 use Rattle.poison.specs.Runs.{Run, run, end, in-run, in-runs, total, one-if, count, Chain}
 
+-- ---- neither of two
+pub or-left : (a b : Bool) → (a || b) ≡ false → a ≡ false
+or-left true b e = e
+or-left false b e = refl
+
+pub or-right : (a b : Bool) → (a || b) ≡ false → b ≡ false
+or-right true b e = absurd (true≢false e)
+or-right false b e = e
+
 -- ---- a line and a run: below it, in it, past it
 pub below-run : (r : Run) (k : ℕ) → k < r .start → in-run r k ≡ false
 unfolding in-run

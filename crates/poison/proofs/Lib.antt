@@ -24,3 +24,4 @@ pub mod Neighbours
 pub mod Agreement
 pub mod Changes
 pub mod Drops
+pub mod Types
