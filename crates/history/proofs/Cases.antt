@@ -1,21 +1,16 @@
 -- P1 to P10 of document 01 hold of the definitions: one statement over the table of `specs/Cases.antt`, by computation. And calls lead from a new device to the
 -- devices that the table starts from: `full-reached`, `last-handle-reached`. Assumes nothing.
 use mathlib.Core.Path.{_≡_, refl, sym, ap, _∙_}
-use mathlib.Core.Bool.{Bool, true, cond}
 use mathlib.Core.List.{List, [], _∷_, map}
 use Prim.Native.Nat.{ℕ, zero, suc, _+_, _≤_, _<_}
 use native.Mathlib.Nat.{add-zero}
 use native.Mathlib.Omega.{arith}
-use borrow.Author.Tests.{eq-eqb, lt-ltb}
-use lib.Dec.{eqb}
+use borrow.Author.Tests.{lt-ltb}
 use lib.ListN.{length, set, replicate}
 use Rattle.wire.specs.Wire.{le, field}
 use Rattle.events.specs.Log.{handle-of, log-at}
 use Rattle.events.specs.Report.{stamped, handle-after}
-use Rattle.events.specs.Clear.{mismatch-code, clear-log-code}
-use Rattle.events.specs.declared.clear.Mismatch.the-variants.{At, Nowhere}
-use Rattle.events.proofs.Handles.{handle-stamped}
-use Rattle.events.proofs.Codes.{clear-log-taken}
+use Rattle.events.proofs.Laws.{handle-stamped, oldest-named, clear-log-taken}
 use Rattle.mailbox.specs.State.{DeviceState, with-logs}
 use Rattle.mailbox.specs.DeviceCalls as Device
 use Rattle.history.specs.Calls.{media-report, step, after}
@@ -67,9 +62,7 @@ handle-carried h less = omega arith
 event-cleared : (r : List ℕ) (h n : ℕ) → handle-of r ≡ h → h < 65536 → step (holding r n) (clear-events 0 (h ∷ [])) .next ≡ giving n
 unfolding rules
 event-cleared r h n e less =
-    let named : eqb (handle-of r) (field (clearing h) 6 2) ≡ true = eq-eqb (handle-of r) (field (clearing h) 6 2) (e ∙ sym (handle-carried h less)) in
-    let code : clear-log-code (log-at (holding r n .logs) 0) (clearing h) ≡ 0 = ap (λ (b : Bool). mismatch-code (cond b Nowhere (At 0))) named in
-    rw (clear-log-taken (log-at (holding r n .logs) 0) (clearing h) code)
+    rw (clear-log-taken (log-at (holding r n .logs) 0) (clearing h) (oldest-named (log-at (holding r n .logs) 0) (clearing h) r [] refl refl refl (e ∙ sym (handle-carried h less))))
 
 -- the two calls use up one handle
 handle-used : (h : ℕ) → 1 ≤ h → h < 65535 → after (giving h) (event ∷ clear-events 0 (h ∷ []) ∷ []) ≡ giving (h + 1)

@@ -10,9 +10,10 @@ use Rattle.wire.specs.Wire.{field}
 use Rattle.poison.specs.Runs.{run, in-run}
 use Rattle.poison.specs.Paper.{Paper, blank-paper, paper-report, paper-inject, paper-clear}
 use Rattle.mailbox.specs.State.{DeviceState}
+use Rattle.mailbox.specs.PoisonCommands.{line-of}
 use Rattle.mailbox.specs.DeviceCalls as Device
 use Rattle.history.specs.Calls.{Call, command, event-report, media-report, line-test, event-status, damage-total, step, after}
-use Rattle.history.specs.Paper.{line-at, write-command, write, history}
+use Rattle.history.specs.Paper.{write-command, write, history}
 use Rattle.history.specs.Demand3.{Blocks}
 use Rattle.history.specs.Damage.{reports, clears, NotCleared}
 use Rattle.history.proofs.Demand3.{demand-3}
@@ -44,12 +45,12 @@ pub set-reported : (p : Paper) (c : Call) (code k : ℕ) → reports c code k �
 unfolding write paper-inject paper-report
 set-reported p (command opcode payload time room) code k e =
     let done = and-parts (eqb code 0) _ e in
-    let two = and-parts (eqb opcode 0x4301) (eqb k (line-at (field payload 0 8))) (done .1) in
-    let same = eqb-true k (line-at (field payload 0 8)) (two .1) in
+    let two = and-parts (eqb opcode 0x4301) (eqb k (line-of (field payload 0 8))) (done .1) in
+    let same = eqb-true k (line-of (field payload 0 8)) (two .1) in
     rw (done .0, two .0, ← same) (rw (one-line k) (or-true (p .set k)))
 set-reported p (event-report time log bytes) code k e = absurd (false≢true e)
 set-reported p (media-report time address lines kind) code k e =
-    let done = and-parts (eqb code 0) (in-run (run (line-at address) lines) k) e in
+    let done = and-parts (eqb code 0) (in-run (run (line-of address) lines) k) e in
     rw (done .0) (rw (done .1) (or-true (p .set k)))
 set-reported p (line-test address) code k e = absurd (false≢true e)
 set-reported p event-status code k e = absurd (false≢true e)
@@ -60,19 +61,19 @@ pub set-kept : (p : Paper) (c : Call) (code k : ℕ) → p .set k ≡ true → c
 unfolding write paper-inject paper-clear paper-report
 set-kept p (command opcode payload time room) code k h e = done (eqb code 0) e
   where
-    done : (b : Bool) → (b && (eqb opcode 0x4302 && eqb k (line-at (field payload 0 8)))) ≡ false → cond b (write-command p opcode payload) p .set k ≡ true
+    done : (b : Bool) → (b && (eqb opcode 0x4302 && eqb k (line-of (field payload 0 8)))) ≡ false → cond b (write-command p opcode payload) p .set k ≡ true
     done false e = h
     done true e = inject (eqb opcode 0x4301) (eqb opcode 0x4302) e
       where
-        inject : (i c : Bool) → (c && eqb k (line-at (field payload 0 8))) ≡ false
-            → cond i (paper-inject p (line-at (field payload 0 8))) (cond c (paper-clear p (line-at (field payload 0 8))) p) .set k ≡ true
+        inject : (i c : Bool) → (c && eqb k (line-of (field payload 0 8))) ≡ false
+            → cond i (paper-inject p (line-of (field payload 0 8))) (cond c (paper-clear p (line-of (field payload 0 8))) p) .set k ≡ true
         inject true c e = rw h refl
         inject false true e = rw (h, e) refl
         inject false false e = h
 set-kept p (event-report time log bytes) code k h e = h
 set-kept p (media-report time address lines kind) code k h e = done (eqb code 0)
   where
-    done : (b : Bool) → cond b (paper-report p (line-at address) lines) p .set k ≡ true
+    done : (b : Bool) → cond b (paper-report p (line-of address) lines) p .set k ≡ true
     done true = rw h refl
     done false = h
 set-kept p (line-test address) code k h e = h

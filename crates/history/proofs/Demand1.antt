@@ -1,7 +1,7 @@
 -- Demand 1 over every call: one that is refused leaves the device as it was, and gives nothing beside its number. Assumes nothing.
 use mathlib.Core.Path.{_≡_, refl}
 use Rattle.mailbox.specs.State.{DeviceState}
-use Rattle.mailbox.proofs.Demand1.{refusal, event-refusal, media-refusal, line-refusal}
+use Rattle.mailbox.proofs.Laws.{refusal, event-refusal, media-refusal, line-refusal}
 use Rattle.history.specs.Calls.{Call, command, event-report, media-report, line-test, event-status, damage-total, step}
 use Rattle.history.specs.Refusals.{GivesNothing}
 

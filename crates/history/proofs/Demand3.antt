@@ -12,7 +12,7 @@ use Rattle.poison.specs.LineTest as Line
 use Rattle.poison.specs.LineTest.{answer-number}
 use Rattle.poison.specs.State.{PoisonState, empty}
 use Rattle.poison.specs.Paper.{Paper, blank-paper, Agrees}
-use Rattle.poison.proofs.Agreement.{consistent-blank, agrees}
+use Rattle.poison.proofs.Laws.{consistent-blank, agrees}
 use Rattle.mailbox.specs.State.{DeviceState, lines-of}
 use Rattle.mailbox.specs.PoisonCommands.{line-code}
 use Rattle.mailbox.specs.DeviceCalls as Device

@@ -9,7 +9,7 @@ use Rattle.poison.specs.State as Poison
 use Rattle.poison.specs.State.{PoisonState, empty}
 use Rattle.poison.specs.Report.{with-drop, report-entries, after-report}
 use Rattle.poison.specs.Paper.{Paper, blank-paper}
-use Rattle.poison.proofs.Agreement.{consistent-blank, consistent-report, agrees}
+use Rattle.poison.proofs.Laws.{consistent-blank, consistent-report, agrees}
 use Rattle.mailbox.specs.State.{DeviceState}
 use Rattle.mailbox.specs.DeviceCalls as Device
 use Rattle.history.specs.Calls.{Call, media-report}

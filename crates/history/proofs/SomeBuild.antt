@@ -1,36 +1,32 @@
 -- Some build meets `Meets` of specs/Builds.antt: the one that answers by the definitions, with devices that are lists of the view's own length. And some build has
 -- each fault. So no theorem of proofs/Builds.antt holds for want of a build. Assumes nothing.
 use Prim.Native.Nat.{ℕ, zero, suc, _+_, _≤_, _<_}
-use mathlib.Core.Path.{_≡_, refl, sym, ap, _∙_}
+use mathlib.Core.Path.{_≡_, refl, sym, ap}
 use mathlib.Core.Bool.{Bool, true, false, _&&_, cond}
 use mathlib.Core.List.{List, [], _∷_, map}
 use native.Mathlib.Decide.{ℕ-discrete}
 use native.Mathlib.Omega.{arith}
-use borrow.Author.Tests.{eq-eqb, ne-eqb, eqb-true, ltb-true, leb-true}
+use borrow.Author.Tests.{eq-eqb, ne-eqb, eqb-true, leb-true}
 use lib.Dec.{eqb, leb}
-use lib.ListN.{length, take, set, replicate, List·getD-map, length-take, length-map}
+use lib.ListN.{length, take, set, replicate, List·getD-map, length-take}
 use Rattle.wire.specs.Wire.{field, splice}
-use Rattle.poison.specs.Runs.{run, Chain, cut, keeps, slots}
+use Rattle.poison.specs.Runs.{run, Chain, keeps, slots}
 use Rattle.poison.specs.State as Poison
-use Rattle.poison.specs.State.{Entry, PoisonState, entry, shape, shapes, covers, insert-entry, insert-entries, Typed, entries-in}
+use Rattle.poison.specs.State.{Entry, PoisonState, entry, shapes, covers, Typed, entries-in}
 use Rattle.poison.specs.Report.{report-entries, with-drop, after-report}
 use Rattle.poison.specs.Inject.{injects, after-inject}
-use Rattle.poison.specs.Clear.{cut-entries}
 use Rattle.poison.specs.LineTest as Line
 use Rattle.poison.specs.LineTest.{answer-number, answer-type}
 use Rattle.poison.specs.declared.list.PoisonList.{PoisonList}
 use Rattle.poison.specs.declared.line_test.LineTest.{LineTest}
 use Rattle.poison.specs.declared.line_test.LineTest.the-variants.{Unknown}
-use Rattle.poison.proofs.RunLaws.{few-cut}
-use Rattle.poison.proofs.Shapes.{length-insert-entry, shapes-cut}
-use Rattle.poison.proofs.Laws.{chain-report, chain-inject, chain-clear, typed-insert, typed-report, typed-clear}
+use Rattle.poison.proofs.Laws.{few-report, few-inject, few-clear, chain-report, chain-inject, chain-clear, typed-insert, typed-report, typed-clear}
 use Rattle.events.specs.Log as Log
 use Rattle.events.specs.Log.{LogState, ValidState, log-at}
 use Rattle.events.specs.Report as Event
 use Rattle.events.specs.Clear as Clear
 use Rattle.events.specs.declared.log.Log as Declared
-use Rattle.events.proofs.Valid.{valid-new, valid-reported}
-use Rattle.events.proofs.Codes.{report-code-zero, clear-code-zero, valid-cleared}
+use Rattle.events.proofs.Laws.{report-code-zero, clear-code-zero, valid-new, valid-reported, valid-cleared}
 use Rattle.mailbox.specs.Numbers.{most-units}
 use Rattle.mailbox.specs.State.{DeviceState, ValidDevice, lines-of, with-logs, with-poison, state-of}
 use Rattle.mailbox.specs.Outcome.{Outcome}
@@ -41,9 +37,7 @@ use Rattle.mailbox.specs.PoisonCommands.{line-of, line-code, inject-poison, cle
 use Rattle.mailbox.specs.Mailbox.{run-command, outcome}
 use Rattle.mailbox.specs.DeviceCalls as Device
 use Rattle.mailbox.specs.declared.device.Device.{Device}
-use Rattle.mailbox.proofs.Addresses.{line-inside}
-use Rattle.mailbox.proofs.DeviceAnswers.{media-zero}
-use Rattle.mailbox.proofs.Demand1.{refusal, event-refusal, media-refusal}
+use Rattle.mailbox.proofs.Laws.{line-inside, media-zero, refusal, event-refusal, media-refusal}
 use Rattle.history.specs.Builds.{Build, Meets, RefusesAll, FixedReply, ChangesNothing, KeepsFirst, of-media}
 use Rattle.history.proofs.Builds.{both-true}
 
@@ -188,18 +182,13 @@ module _ (ls : List LogState) (h : (k : ℕ) → k < 5 → ValidState (log-at ls
       go false e = rw e (h k less)
 
 -- ---- the list
--- as many entries more as are put in
-length-insert-entries : (es xs : List Entry) → length (insert-entries es xs) ≡ length es + length xs
-length-insert-entries [] xs = omega arith
-length-insert-entries (e ∷ es) xs = length-insert-entries es (insert-entry e xs) ∙ omega (arith, length-insert-entry e xs)
-
 module _ (n : ℕ) (s : PoisonState) (v : ValidEntries n (s .entries)) where
   -- after a media report that is taken
   media-valid : (a l kind time : ℕ) → a + l ≤ n → kind < 8 → ValidEntries n (after-report s a l kind time .entries)
   unfolding with-drop report-entries
   media-valid a l kind time h t =
       record {
-        few = rw (length-insert-entries, length-map, length-take) (omega (arith, v .few));
+        few = few-report s a l kind time (v .few);
         chain = chain-report n a l kind (s .entries) (v .chain) h;
         typed = typed-report a l kind (s .entries) t (v .typed);
       }
@@ -211,10 +200,9 @@ module _ (n : ℕ) (s : PoisonState) (v : ValidEntries n (s .entries)) where
       go : (b : Bool) → covers (s .entries) k ≡ b → ValidEntries n (after-inject s k .entries)
       go true c = rw c v
       go false c =
-          let room : length (s .entries) < slots = ltb-true (length (s .entries)) slots (sym (rw c refl) ∙ i) in
           rw c
           (record {
-            few = rw length-insert-entry room;
+            few = rw c at (few-inject s k (v .few) i);
             chain = chain-inject n k 3 (s .entries) (v .chain) h c;
             typed = typed-insert (entry 3 (run k 1)) (s .entries) (omega arith) (v .typed);
           })
@@ -246,11 +234,9 @@ module _ (n : ℕ) (s : PoisonState) (v : ValidEntries n (s .entries)) where
       checked : (b : Bool) → eqb (line-code n (field p 0 8)) 0 ≡ b → ValidEntries n (clear-poison n s p time .list .entries)
       checked false e = rw e v
       checked true e =
-          let long : length (cut-entries keep k (s .entries)) ≡ length (cut keep k (shapes (s .entries))) = sym (length-map (cut-entries keep k (s .entries)) shape) ∙ ap length (shapes-cut keep k (s .entries)) in
-          let same : length (shapes (s .entries)) ≡ length (s .entries) = length-map (s .entries) shape in
           rw e
           (record {
-            few = rw long (few-cut k (shapes (s .entries)) (rw same (v .few)));
+            few = few-clear s k time (v .few);
             chain = chain-clear n k keep (s .entries) (v .chain);
             typed = typed-clear keep k (s .entries) (v .typed);
           })

@@ -11,8 +11,7 @@ use Rattle.wire.specs.Wire.{field}
 use Rattle.poison.specs.State.{PoisonState}
 use Rattle.poison.specs.Inject.{injects}
 use Rattle.poison.specs.Paper.{Paper, paper-report}
-use Rattle.poison.proofs.Agreement.{Consistent, consistent-report, consistent-inject, consistent-clear}
-use Rattle.poison.proofs.Drops.{Flags, report-flags, inject-flags, clear-flags}
+use Rattle.poison.proofs.Laws.{Consistent, consistent-report, consistent-inject, consistent-clear, Flags, report-flags, inject-flags, clear-flags}
 use Rattle.mailbox.specs.State.{DeviceState, lines-of}
 use Rattle.mailbox.specs.Outcome.{Outcome}
 use Rattle.mailbox.specs.Commands.{admission}
@@ -21,10 +20,9 @@ use Rattle.mailbox.specs.EventCommands.{clear-event-records}
 use Rattle.mailbox.specs.PoisonCommands.{line-of, line-code, inject-poison, clear-poison}
 use Rattle.mailbox.specs.Mailbox.{run-command, outcome}
 use Rattle.mailbox.specs.DeviceCalls as Device
-use Rattle.mailbox.proofs.Addresses.{line-inside}
-use Rattle.mailbox.proofs.DeviceAnswers.{media-zero}
+use Rattle.mailbox.proofs.Laws.{line-inside, media-zero}
 use Rattle.history.specs.Calls.{Call, command, event-report, media-report, line-test, event-status, damage-total, step}
-use Rattle.history.specs.Paper.{line-at, write-command, write}
+use Rattle.history.specs.Paper.{write-command, write}
 
 -- what holds of a device of n lines and a paper
 pub record Holds (n : ℕ) (d : DeviceState) (p : Paper) : Type 0 where
@@ -166,12 +164,12 @@ module _ (n : ℕ) (d : DeviceState) (p : Paper) (h : Holds n d p) where
 
   -- a media report
   media-holds : (time address lines kind : ℕ)
-      → Moves n d (Device.media-report d time address lines kind .next) (cond (eqb (Device.media-report d time address lines kind .code) 0) (paper-report p (line-at address) lines) p)
+      → Moves n d (Device.media-report d time address lines kind .next) (cond (eqb (Device.media-report d time address lines kind .code) 0) (paper-report p (line-of address) lines) p)
   unfolding Device.media-report
   media-holds time address lines kind = checked (eqb (Device.media-code (lines-of d) address lines kind) 0) refl
     where
       checked : (b : Bool) → eqb (Device.media-code (lines-of d) address lines kind) 0 ≡ b
-          → Moves n d (Device.media-report d time address lines kind .next) (cond (eqb (Device.media-report d time address lines kind .code) 0) (paper-report p (line-at address) lines) p)
+          → Moves n d (Device.media-report d time address lines kind .next) (cond (eqb (Device.media-report d time address lines kind .code) 0) (paper-report p (line-of address) lines) p)
       checked true e =
           rw e
           (record {

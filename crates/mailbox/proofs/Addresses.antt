@@ -6,10 +6,9 @@ use native.Mathlib.Numerals.{add-one}
 use native.Mathlib.Omega.{arith}
 use lib.Dec.{eqb, leb}
 use borrow.Author.Tests.{leb-true, le-leb, lt-leb}
-use Rattle.mailbox.specs.Numbers.{invalid-input, invalid-address}
-use Rattle.mailbox.specs.Outcome.{need}
+use Rattle.wire.specs.Returns.{invalid-input, invalid-address, need}
 use Rattle.mailbox.specs.PoisonCommands.{aligned, line-of, line-code, range-code}
-use Rattle.mailbox.proofs.AdmissionLaws.{need-fails, need-holds, need-zero}
+use Rattle.wire.proofs.Laws.{need-fails, need-holds, need-zero}
 
 -- the end of a range: past a device, and on it
 pub end-past : (lines k n : ℕ) → lines < k + n → invalid-address ≡ need (leb (k + n) lines) invalid-address 0

@@ -5,21 +5,10 @@ use Prim.Native.Nat.{ℕ, _≤_, _<_}
 use native.Mathlib.Omega.{arith}
 use lib.Dec.{leb, eqb}
 use borrow.Author.Tests.{le-leb, lt-leb, leb-true, eqb-true}
-use Rattle.mailbox.specs.Numbers.{mailbox-size, unsupported, invalid-length, small-buffer}
-use Rattle.mailbox.specs.Outcome.{need}
+use Rattle.wire.specs.Returns.{unsupported, invalid-length, small-buffer, need}
+use Rattle.mailbox.specs.Numbers.{mailbox-size}
+use Rattle.wire.proofs.Laws.{need-fails, need-holds, need-zero}
 use Rattle.mailbox.specs.Commands.{commands, known, fits, admission}
-
--- a check that fails gives its number, one that holds gives the rest
-pub need-fails : {t : Bool} (n m : ℕ) → t ≡ false → n ≡ need t n m
-need-fails n m e = sym (ap (λ (b : Bool). need b n m) e)
-
-pub need-holds : {t : Bool} (n m : ℕ) → t ≡ true → m ≡ need t n m
-need-holds n m e = sym (ap (λ (b : Bool). need b n m) e)
-
--- a chain of checks that gives 0: the first holds, and the rest gives 0
-pub need-zero : (t : Bool) (n m : ℕ) → 0 < n → need t n m ≡ 0 → (t ≡ true) × (m ≡ 0)
-need-zero true n m pos e = (refl, e)
-need-zero false n m pos e = absurd (omega arith)
 
 module _ (op n room : ℕ) where
   pub admission-room : room < mailbox-size → small-buffer ≡ admission op n room

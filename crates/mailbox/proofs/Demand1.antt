@@ -23,7 +23,8 @@ use Rattle.mailbox.specs.declared.device_calls.EventAnswer.{EventAnswer}
 use Rattle.mailbox.specs.declared.device_calls.MediaAnswer.{MediaAnswer}
 use Rattle.mailbox.specs.declared.device_calls.LineAnswer.{LineAnswer}
 use Rattle.mailbox.specs.Contracts.{Answered, Makes, EventDone, MediaDone, LineDone}
-use Rattle.mailbox.specs.Numbers.{mailbox-size, most-units, invalid-input}
+use Rattle.wire.specs.Returns.{invalid-input}
+use Rattle.mailbox.specs.Numbers.{mailbox-size, most-units}
 use Rattle.mailbox.specs.Commands.{admission}
 use Rattle.mailbox.specs.Outcome.{Reply, replied, no-reply, Outcome, reads, changes}
 use Rattle.mailbox.specs.Clock.{device-time, get-timestamp}

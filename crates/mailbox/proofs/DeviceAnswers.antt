@@ -16,18 +16,17 @@ use Rattle.poison.specs.declared.line_test.LineTest.the-variants.{Unknown}
 use Rattle.events.specs.Log.{states-of, blank}
 use Rattle.events.specs.Report.{report-code, ReportOutcome, ReportDone}
 use Rattle.events.specs.declared.report.Reported.{Reported as LogReported}
-use Rattle.events.proofs.Codes.{report-code-zero}
-use Rattle.events.proofs.Layer.{event-report-refused, event-report-taken, valid-set}
+use Rattle.events.proofs.Laws.{report-code-zero, event-report-refused, event-report-taken, valid-set}
 use Rattle.mailbox.specs.declared.device.Device.{Device}
-use Rattle.mailbox.specs.Numbers.{most-units, success, invalid-input}
+use Rattle.wire.specs.Returns.{success, invalid-input, need}
+use Rattle.mailbox.specs.Numbers.{most-units}
 use Rattle.mailbox.specs.State.{DeviceState, ValidDevice, state-of, lines-of, with-logs, with-poison}
-use Rattle.mailbox.specs.Outcome.{need}
 use Rattle.mailbox.specs.Clock.{device-time}
 use Rattle.mailbox.specs.PoisonCommands.{line-of, line-code, range-code}
 use Rattle.mailbox.specs.DeviceCalls.{new-device, make, MakeOutcome, event-report, media-code, media-report, MediaOutcome, line-test, LineOutcome}
 use Rattle.poison.specs.LineTest.{answer-number, answer-type}
 use Rattle.mailbox.specs.Contracts.{Makes, EventDone, MediaDone, LineDone}
-use Rattle.mailbox.proofs.AdmissionLaws.{need-fails, need-holds, need-zero}
+use Rattle.wire.proofs.Laws.{need-fails, need-holds, need-zero}
 use Rattle.mailbox.proofs.Addresses.{range-ends}
 use Rattle.mailbox.proofs.Answers.{valid-device}
 

@@ -7,7 +7,8 @@ use native.Mathlib.Omega.{arith}
 use lib.ListN.{length}
 use borrow.Author.Tests.{le-leb, lt-leb}
 use Rattle.wire.specs.Wire.{le, part, same, splice}
-use Rattle.mailbox.specs.Numbers.{mailbox-size, invalid-input, invalid-log}
+use Rattle.wire.specs.Returns.{invalid-input, invalid-log}
+use Rattle.mailbox.specs.Numbers.{mailbox-size}
 use Rattle.mailbox.specs.Outcome.{replied, no-reply}
 use Rattle.mailbox.specs.Commands.{commands}
 use Rattle.mailbox.specs.EffectsLog.{effects-log, effects-log-size, effects-log-id, get-supported-logs, log-offset, log-length, get-log}

@@ -1,4 +1,4 @@
--- The laws of crate `mailbox` that more than one proof cites, by subject.
+-- The laws of crate `mailbox` that more than one proof cites, by subject. A crate above cites Laws alone.
 pub mod Replies
 pub mod AdmissionLaws
 pub mod EffectsLaws
@@ -11,3 +11,4 @@ pub mod EventAnswers
 pub mod ListAnswers
 pub mod DeviceAnswers
 pub mod Demand1
+pub mod Laws

@@ -7,18 +7,18 @@ use native.Mathlib.Omega.{arith}
 use lib.ListN.{length, take, length-append, length-take}
 use borrow.Author.Tests.{ne-eqb}
 use Rattle.wire.specs.Wire.{field, splice}
-use Rattle.poison.specs.State.{PoisonState, capacity, ValidList, state-of, shapes, entries-of}
+use Rattle.poison.specs.State.{PoisonState, capacity, ValidList, state-of}
 use Rattle.poison.specs.Inject.{injects, after-inject, Injects}
 use Rattle.poison.specs.Clear.{after-clear, Clears}
 use Rattle.poison.specs.Range.{sharing, records-bytes, Wrote}
 use Rattle.poison.specs.declared.list.PoisonList.{PoisonList}
 use Rattle.poison.specs.declared.inject.Injected.{Injected}
-use Rattle.poison.proofs.RunLaws.{chain-higher}
-use Rattle.poison.proofs.Records.{length-records}
+use Rattle.poison.proofs.Laws.{valid-more, length-records}
 use Rattle.mailbox.specs.declared.outcome.Done.{Done}
 use Rattle.mailbox.specs.declared.poison_commands.ListChanged.{ListChanged}
 use Rattle.mailbox.specs.declared.device.Device.{Device}
-use Rattle.mailbox.specs.Numbers.{unit-lines, mailbox-size, poison-records, success, inject-limit}
+use Rattle.wire.specs.Returns.{success, inject-limit}
+use Rattle.mailbox.specs.Numbers.{unit-lines, mailbox-size, poison-records}
 use Rattle.mailbox.specs.State as D
 use Rattle.mailbox.specs.State.{ValidDevice}
 use Rattle.mailbox.specs.Outcome.{replied, no-reply, reads}
@@ -29,10 +29,6 @@ use Rattle.mailbox.proofs.Replies.{no-bytes, bytes-written, field-befor
 use Rattle.mailbox.proofs.Headers.{header-length}
 use Rattle.mailbox.proofs.Addresses.{line-inside}
 use Rattle.mailbox.proofs.Answers.{read-answer, change-answer, same-list, valid-device}
-
--- a list that is valid on a device is valid on a larger one
-pub valid-more : {n m : ℕ} {l : PoisonList} → n ≤ m → ValidList n l → ValidList m l
-valid-more {n} {m} {l} h v = record { few = v .few; chain = chain-higher 0 n m (shapes (entries-of l)) h (v .chain); typed = v .typed }
 
 -- a command that changes the list, by its number and the list that follows
 pub list-done : {o : ListChange} {s : PoisonState} {lines code : ℕ} {l r : PoisonList} → o ≡ record { code = code; list = s } → state-of r ≡ s
@@ -150,17 +146,19 @@ module _ (lines : ℕ) (l : PoisonList) (p : List ℕ) (address : ℕ) (e : addr
         → Replied (get-poison-list lines (state-of l) p) (record { code = code; length = 0 }) before before
     get-refusal code h f = no-bytes (get-refused lines (state-of l) p code (h ∙ range-at) f)
 
-    pub get-reply : (found count : ℕ) {before middle after : List ℕ} → range-code lines address n ≡ 0
+    pub get-reply : (found count : ℕ) {overflow : Bool} {time : ℕ} {before middle after : List ℕ} → range-code lines address n ≡ 0
+        → overflow ≡ state-of l .overflow → time ≡ state-of l .overflow-time
         → Wrote l (line-of address) n poison-records 32 found before middle → count ≡ min poison-records found
-        → after ≡ splice 0 (list-header (l .overflow) (l .«overflow_time») found count) middle → mailbox-size ≤ length before
+        → after ≡ splice 0 (list-header overflow time found count) middle → mailbox-size ≤ length before
         → Replied (get-poison-list lines (state-of l) p) (record { code = success; length = 32 + 16 * count }) before after
-    get-reply found count {before} {middle} {after} z w isc h room =
+    get-reply found count {overflow} {time} {before} {middle} {after} z eo et w isc h room =
         let s = state-of l in
         let k = line-of (field p 0 8) in
         let here : Wrote l k (field p 8 8) poison-records 32 found before middle
         = subst (λ (x : ℕ). Wrote l k x poison-records 32 found before middle) m (subst (λ (x : ℕ). Wrote l (line-of x) n poison-records 32 found before middle) e w) in
         bytes-written (get-taken lines s p (sym range-at ∙ z)) (reply-length s k (field p 8 8) found count (here .number) isc)
-        (h ∙ ap (splice 0 (list-header (l .overflow) (l .«overflow_time») found count)) (here .bytes)
+        (h ∙ ap₂ (λ (o : Bool) (t : ℕ). splice 0 (list-header o t found count) middle) eo et
+        ∙ ap (splice 0 (list-header (s .overflow) (s .overflow-time) found count)) (here .bytes)
         ∙ reply-written s k (field p 8 8) found count (here .number) isc before room)
 
 -- ---- at the mailbox

@@ -4,8 +4,8 @@ use Prim.Native.Nat.{ℕ}
 use mathlib.Core.Bool.{Bool, false, _||_, cond}
 use mathlib.Core.List.{List, [], _∷_}
 use lib.Dec.{leb, eqb}
-use Rattle.mailbox.specs.Numbers.{mailbox-size, unsupported, invalid-length, small-buffer}
-use Rattle.mailbox.specs.Outcome.{need}
+use Rattle.wire.specs.Returns.{unsupported, invalid-length, small-buffer, need, success}
+use Rattle.mailbox.specs.Numbers.{mailbox-size}
 
 -- a command: its opcode, its effect, and the payload lengths that it takes
 pub record Command : Type 0 where
@@ -55,4 +55,4 @@ admission op n room =
     (need (leb n mailbox-size) invalid-length
     (need (known commands op) unsupported
     (need (fits commands op n) invalid-length
-    0)))
+    success)))

@@ -4,6 +4,7 @@ use Prim.Native.Nat.{ℕ}
 use mathlib.Core.Path.{_≡_}
 use mathlib.Core.List.{List}
 use lib.ListN.{length}
+use Rattle.wire.specs.Returns.{success}
 use Rattle.wire.specs.Wire.{splice}
 use Rattle.poison.specs.State as P
 use Rattle.poison.specs.declared.list.PoisonList.{PoisonList}
@@ -33,7 +34,7 @@ pub record Replied (o : Reply) (r : Done) (before after : List ℕ) : Type 0 whe
 pub record ListDone (o : ListChange) (lines : ℕ) (l : PoisonList) (r : ListChanged) : Type 0 where
   pub code : r .code ≡ o .code
   pub list : P.state-of (r .list) ≡ o .list
-  pub refused : (r .code ≡ 0 → ⊥) → r .list ≡ l
+  pub refused : (r .code ≡ success → ⊥) → r .list ≡ l
   pub valid : P.ValidList lines (r .list)
 
 -- `command`: number, length, next device, every byte of the buffer; the premise given back; a refusal hands back the very same device
@@ -42,7 +43,7 @@ pub record Answered (o : Outcome) (d : Device) (r : Answer) (before after : List
   pub size : r .length ≡ length (o .reply)
   pub next : state-of (r .device) ≡ o .next
   pub bytes : after ≡ splice 0 (o .reply) before
-  pub refused : (r .code ≡ 0 → ⊥) → r .device ≡ d
+  pub refused : (r .code ≡ success → ⊥) → r .device ≡ d
   pub valid : ValidDevice (r .device)
 
 -- `make`
@@ -56,7 +57,7 @@ pub record EventDone (o : EventOutcome) (d : Device) (r : EventAnswer) : Type 0 
   pub code : r .code ≡ o .code
   pub stored : r .stored ≡ o .stored
   pub next : state-of (r .device) ≡ o .next
-  pub refused : (r .code ≡ 0 → ⊥) → r .device ≡ d
+  pub refused : (r .code ≡ success → ⊥) → r .device ≡ d
   pub valid : ValidDevice (r .device)
 
 -- `media_report`
@@ -65,7 +66,7 @@ pub record MediaDone (o : MediaOutcome) (d : Device) (r : MediaAnswer) : Type 0 
   pub stored : r .stored ≡ o .stored
   pub dropped : r .dropped ≡ o .dropped
   pub next : state-of (r .device) ≡ o .next
-  pub refused : (r .code ≡ 0 → ⊥) → r .device ≡ d
+  pub refused : (r .code ≡ success → ⊥) → r .device ≡ d
   pub valid : ValidDevice (r .device)
 
 -- `line_test`: the enum by the definitions that give document 01's number and type for each case, which together tell the case

@@ -4,8 +4,9 @@ use mathlib.Core.List.{List, [], _∷_, _++_}
 use lib.Dec.{leb}
 use lib.ListN.{length}
 use Rattle.wire.specs.Wire.{le, field, part, same}
-use Rattle.mailbox.specs.Numbers.{mailbox-size, invalid-input, invalid-log}
-use Rattle.mailbox.specs.Outcome.{Reply, replied, no-reply, need}
+use Rattle.wire.specs.Returns.{invalid-input, invalid-log, need}
+use Rattle.mailbox.specs.Numbers.{mailbox-size}
+use Rattle.mailbox.specs.Outcome.{Reply, replied, no-reply}
 use Rattle.mailbox.specs.Commands.{Command, commands}
 
 -- "The Command Effects Log has 4 bytes a command, opcode then effect, ascending"

@@ -4,9 +4,9 @@ use mathlib.Core.Bool.{cond}
 use mathlib.Core.List.{List}
 use lib.Dec.{eqb}
 use lib.ListN.{length}
-use Rattle.mailbox.specs.Numbers.{success, unsupported}
+use Rattle.wire.specs.Returns.{success, unsupported, need}
 use Rattle.mailbox.specs.State.{DeviceState, lines-of, with-clock, with-policy, with-poison}
-use Rattle.mailbox.specs.Outcome.{Outcome, reads, changes, refused, need}
+use Rattle.mailbox.specs.Outcome.{Outcome, reads, changes, refused}
 use Rattle.mailbox.specs.Commands.{admission}
 use Rattle.mailbox.specs.Clock.{device-time, get-timestamp, set-timestamp}
 use Rattle.mailbox.specs.Policy.{get-policy, set-policy}
@@ -39,5 +39,5 @@ run-command d op p time =
 -- the answer to a command: "Order for a command", then the command
 unfoldable pub outcome : DeviceState → ℕ → List ℕ → ℕ → ℕ → Outcome
 outcome d op p time room =
-    need (eqb (admission op (length p) room) 0) (refused (admission op (length p) room) d)
+    need (eqb (admission op (length p) room) success) (refused (admission op (length p) room) d)
     (run-command d op p time)

@@ -1,14 +1,8 @@
--- What a command gives: a number with a reply (the device stays) or with the device that follows (no reply); and checks in a stated order.
--- Assumes nothing.
+-- What a command gives: a number with a reply (the device stays) or with the device that follows (no reply). Assumes nothing.
 use Prim.Native.Nat.{ℕ}
-use mathlib.Core.Bool.{Bool, cond}
 use mathlib.Core.List.{List, []}
-use Rattle.mailbox.specs.Numbers.{success}
+use Rattle.wire.specs.Returns.{success}
 use Rattle.mailbox.specs.State.{DeviceState}
-
--- a check: the refusal where the test fails, else what follows
-abbrev pub need : {A : Type 0} → Bool → A → A → A
-need test refusal rest = cond test rest refusal
 
 -- what a command that reads gives: "Every non-zero number returns reply length 0"
 pub record Reply : Type 0 where

@@ -10,8 +10,9 @@ use Rattle.poison.specs.State.{PoisonState}
 use Rattle.poison.specs.Inject.{injects, after-inject}
 use Rattle.poison.specs.Clear.{after-clear}
 use Rattle.poison.specs.Range.{sharing, records-bytes}
-use Rattle.mailbox.specs.Numbers.{line-bytes, poison-records, success, invalid-input, invalid-address, inject-limit}
-use Rattle.mailbox.specs.Outcome.{Reply, replied, no-reply, need}
+use Rattle.wire.specs.Returns.{success, invalid-input, invalid-address, inject-limit, need}
+use Rattle.mailbox.specs.Numbers.{line-bytes, poison-records}
+use Rattle.mailbox.specs.Outcome.{Reply, replied, no-reply}
 
 -- an address is a multiple of 64; its line
 abbrev pub aligned : ℕ → Bool
@@ -22,11 +23,11 @@ line-of address = address / line-bytes
 
 -- the checks of one line of a device: "unaligned 0002h; outside 000Fh"; 0 where there is nothing to refuse
 unfoldable pub line-code : ℕ → ℕ → ℕ
-line-code lines address = need (aligned address) invalid-input (need (ltb (line-of address) lines) invalid-address 0)
+line-code lines address = need (aligned address) invalid-input (need (ltb (line-of address) lines) invalid-address success)
 
 -- the checks of a range: "unaligned 0002h; end past the device 000Fh"
 unfoldable pub range-code : ℕ → ℕ → ℕ → ℕ
-range-code lines address n = need (aligned address) invalid-input (need (leb (line-of address + n) lines) invalid-address 0)
+range-code lines address n = need (aligned address) invalid-input (need (leb (line-of address + n) lines) invalid-address success)
 
 -- what a command that changes the list gives
 pub record ListChange : Type 0 where
@@ -36,14 +37,14 @@ pub record ListChange : Type 0 where
 -- 4301h, address 8: "unaligned 0002h; outside 000Fh; covered, Success and nothing changes; 256 held, 0010h; else a one-line entry of type 3"
 unfoldable pub inject-poison : ℕ → PoisonState → List ℕ → ListChange
 inject-poison lines s p =
-    need (eqb (line-code lines (field p 0 8)) 0) (record { code = line-code lines (field p 0 8); list = s })
+    need (eqb (line-code lines (field p 0 8)) success) (record { code = line-code lines (field p 0 8); list = s })
     (need (injects s (line-of (field p 0 8))) (record { code = inject-limit; list = s })
     (record { code = success; list = after-inject s (line-of (field p 0 8)) }))
 
 -- 4302h, address 8, data 64, at a device time: "unaligned 0002h; outside 000Fh; uncovered, Success. Else ..". The data is the caller's to write.
 unfoldable pub clear-poison : ℕ → PoisonState → List ℕ → ℕ → ListChange
 clear-poison lines s p time =
-    need (eqb (line-code lines (field p 0 8)) 0) (record { code = line-code lines (field p 0 8); list = s })
+    need (eqb (line-code lines (field p 0 8)) success) (record { code = line-code lines (field p 0 8); list = s })
     (record { code = success; list = after-clear s (line-of (field p 0 8)) time })
 
 -- flag bit 0: more than 126 entries share a line with the range; bit 1: overflow
@@ -63,5 +64,5 @@ list-reply s a n =
 -- 4300h, address 8, lines 8
 unfoldable pub get-poison-list : ℕ → PoisonState → List ℕ → Reply
 get-poison-list lines s p =
-    need (eqb (range-code lines (field p 0 8) (field p 8 8)) 0) (no-reply (range-code lines (field p 0 8) (field p 8 8)))
+    need (eqb (range-code lines (field p 0 8) (field p 8 8)) success) (no-reply (range-code lines (field p 0 8) (field p 8 8)))
     (replied (list-reply s (line-of (field p 0 8)) (field p 8 8)))

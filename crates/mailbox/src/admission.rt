@@ -1,20 +1,20 @@
 // The checks before a command's own (document 01, "Return numbers", "Order for a command").
+use wire::returns;
 ghost use mathlib.Core.Path.{_≡_};
 ghost use mathlib.Core.Bool.{_||_};
 ghost use lib.Dec.{eqb, leb};
-ghost use Rattle.mailbox.specs.Numbers.{invalid-length};
-ghost use Rattle.mailbox.specs.Outcome.{need};
+ghost use Rattle.wire.specs.Returns.{invalid-length, need};
 ghost use Rattle.mailbox.specs.Commands.{admission};
 
 // The number that is given before a command's own checks, 0 where there is none.
-pub fn admitted(opcode: u16, length: usize, room: usize) -> u16
+pub(crate) fn admitted(opcode: u16, length: usize, room: usize) -> u16
     ensures { λ r. ⌜ r ≡ admission opcode length room ⌝ }
 {
     if room < 2048 {
-        return 0x100;
+        return returns::SMALL_BUFFER;
     }
     if 2048 < length {
-        return 0x16;
+        return returns::INVALID_LENGTH;
     }
     match opcode {
         0x0100 => exactly(length, 1),
@@ -29,7 +29,7 @@ pub fn admitted(opcode: u16, length: usize, room: usize) -> u16
         0x4300 => exactly(length, 16),
         0x4301 => exactly(length, 8),
         0x4302 => exactly(length, 72),
-        _ => 3,
+        _ => returns::UNSUPPORTED,
     }
 }
 
@@ -37,14 +37,22 @@ pub fn admitted(opcode: u16, length: usize, room: usize) -> u16
 fn exactly(length: usize, k: usize) -> u16
     ensures { λ r. ⌜ r ≡ need (eqb length k) invalid-length 0 ⌝ }
 {
-    if length == k { 0 } else { 0x16 }
+    if length == k {
+        returns::SUCCESS
+    } else {
+        returns::INVALID_LENGTH
+    }
 }
 
 // A payload of k bytes or more.
 fn at_least(length: usize, k: usize) -> u16
     ensures { λ r. ⌜ r ≡ need (leb k length) invalid-length 0 ⌝ }
 {
-    if k <= length { 0 } else { 0x16 }
+    if k <= length {
+        returns::SUCCESS
+    } else {
+        returns::INVALID_LENGTH
+    }
 }
 
 // A payload of four bytes or five.
@@ -52,10 +60,10 @@ fn four_or_five(length: usize) -> u16
     ensures { λ r. ⌜ r ≡ need (eqb length 4 || eqb length 5) invalid-length 0 ⌝ }
 {
     if length == 4 {
-        return 0;
+        return returns::SUCCESS;
     }
     if length == 5 {
-        return 0;
+        return returns::SUCCESS;
     }
-    0x16
+    returns::INVALID_LENGTH
 }

@@ -1,5 +1,6 @@
 // The clock (document 01, "Clock"), Get Timestamp and Set Timestamp.
 use crate::outcome::Done;
+use wire::returns;
 ghost use mathlib.Core.Path.{_≡_};
 ghost use Prim.Native.Nat.{_≤_};
 ghost use lib.ListN.{length};
@@ -8,14 +9,14 @@ ghost use Rattle.mailbox.specs.Contracts.{Replied};
 
 // Never set, or the value set and the caller's time at the setting.
 pub struct Clock {
-    pub set: bool,
-    pub value: u64,
-    pub since: u64,
+    pub(crate) set: bool,
+    pub(crate) value: u64,
+    pub(crate) since: u64,
 }
 
 impl Clock {
     // The device time when the caller's clock says time.
-    pub fn time(self, time: u64) -> u64
+    pub(crate) fn time(self, time: u64) -> u64
         ensures { λ r. ⌜ r ≡ device-time self time ⌝ }
     {
         if !self.set {
@@ -39,7 +40,10 @@ impl Clock {
     {
         let now = self.time(time);
         wire::put(reply, 0, 8, now);
-        Done { code: 0, length: 8 }
+        Done {
+            code: returns::SUCCESS,
+            length: 8,
+        }
     }
 }
 

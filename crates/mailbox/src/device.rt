@@ -11,6 +11,7 @@ use events::get;
 use events::log;
 use events::log::Log;
 use poison::list::PoisonList;
+use wire::returns;
 ghost use mathlib.Core.Path.{_≡_};
 ghost use Prim.Native.Nat.{_+_, _*_, _≤_};
 ghost use lib.ListN.{length};
@@ -21,12 +22,12 @@ ghost use Rattle.mailbox.specs.DeviceCalls.{make, new-device};
 ghost use Rattle.mailbox.specs.Contracts.{Answered, Makes};
 
 pub struct Device {
-    pub volatile: u16,
-    pub persistent: u16,
-    pub clock: Clock,
-    pub policy: [u8; 5],
-    pub logs: [Log; 5],
-    pub poison: PoisonList,
+    pub(crate) volatile: u16,
+    pub(crate) persistent: u16,
+    pub(crate) clock: Clock,
+    pub(crate) policy: [u8; 5],
+    pub(crate) logs: [Log; 5],
+    pub(crate) poison: PoisonList,
 }
 
 // The answer to a command: the return number, the length of the reply, and the device that follows.
@@ -79,18 +80,18 @@ impl Device {
         let total = (volatile as u32) + (persistent as u32);
         if total < 1 {
             return Made {
-                code: 2,
+                code: returns::INVALID_INPUT,
                 device: Device::new(1, 0),
             };
         }
         if 1023 < total {
             return Made {
-                code: 2,
+                code: returns::INVALID_INPUT,
                 device: Device::new(1, 0),
             };
         }
         Made {
-            code: 0,
+            code: returns::SUCCESS,
             device: Device::new(volatile, persistent),
         }
     }
@@ -103,14 +104,14 @@ impl Device {
     {
         let mut code = admission::admitted(opcode, payload.len(), reply.len());
         let mut length: usize = 0;
-        if code == 0 {
+        if code == returns::SUCCESS {
             let lines = lines_of(self.volatile, self.persistent);
             let clock = self.clock;
             match opcode {
                 0x0100 => {
                     let k = payload[0];
                     code = get::get_code(k);
-                    if code == 0 {
+                    if code == returns::SUCCESS {
                         let i = k as usize;
                         let log = self.logs[i];
                         length = log.get(15, reply);
@@ -118,7 +119,7 @@ impl Device {
                 }
                 0x0101 => {
                     code = clear::clear_code(payload);
-                    if code == 0 {
+                    if code == returns::SUCCESS {
                         let k = payload[0] as usize;
                         let log = self.logs[k];
                         let cleared = log.clear(payload);
@@ -177,7 +178,7 @@ impl Device {
                     code = done.code;
                 }
                 _ => {
-                    code = 3;
+                    code = returns::UNSUPPORTED;
                 }
             }
         }

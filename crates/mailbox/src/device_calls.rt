@@ -7,10 +7,10 @@ use events::report;
 use events::status;
 use events::status::Status;
 use poison::line_test::LineTest;
+use wire::returns;
 ghost use mathlib.Core.Path.{_≡_};
 ghost use Rattle.poison.specs.Report.{reportable};
-ghost use Rattle.mailbox.specs.Numbers.{invalid-input};
-ghost use Rattle.mailbox.specs.Outcome.{need};
+ghost use Rattle.wire.specs.Returns.{invalid-input, need};
 ghost use Rattle.mailbox.specs.State.{ValidDevice, state-of};
 ghost use Rattle.mailbox.specs.DeviceCalls.{media-code, event-report, media-report, line-test, event-status, damage-total};
 ghost use Rattle.mailbox.specs.Contracts.{EventDone, MediaDone, LineDone, StatusGiven};
@@ -38,9 +38,13 @@ fn check_kind(kind: u8) -> u16
     ensures { λ r. ⌜ r ≡ need (reportable kind) invalid-input 0 ⌝ }
 {
     if kind <= 2 {
-        return 0;
+        return returns::SUCCESS;
     }
-    if kind == 7 { 0 } else { 2 }
+    if kind == 7 {
+        returns::SUCCESS
+    } else {
+        returns::INVALID_INPUT
+    }
 }
 
 // The checks of a media report on a device of so many lines: the type, the number of lines, then the range.
@@ -48,11 +52,11 @@ fn check_report(lines: u32, address: u64, n: u32, kind: u8) -> u16
     ensures { λ r. ⌜ r ≡ media-code lines address n kind ⌝ }
 {
     let code = check_kind(kind);
-    if code != 0 {
+    if code != returns::SUCCESS {
         return code;
     }
     if n == 0 {
-        return 2;
+        return returns::INVALID_INPUT;
     }
     poison_commands::check_range(lines, address, n as u64)
 }
@@ -65,7 +69,7 @@ impl Device {
     {
         let code = report::report_code(log, event.len());
         let mut stored = false;
-        if code == 0 {
+        if code == returns::SUCCESS {
             let clock = self.clock;
             let now = clock.time(time);
             let k = log as usize;
@@ -91,7 +95,7 @@ impl Device {
         let code = check_report(all, address, lines, kind);
         let mut stored: u32 = 0;
         let mut dropped: u32 = 0;
-        if code == 0 {
+        if code == returns::SUCCESS {
             let clock = self.clock;
             let now = clock.time(time);
             let list = self.poison;
@@ -116,7 +120,7 @@ impl Device {
     {
         let all = lines_of(self.volatile, self.persistent);
         let code = poison_commands::check_line(all, address);
-        if code != 0 {
+        if code != returns::SUCCESS {
             return LineAnswer {
                 code,
                 answer: LineTest::Unknown,
@@ -124,7 +128,7 @@ impl Device {
         }
         let list = self.poison;
         LineAnswer {
-            code: 0,
+            code: returns::SUCCESS,
             answer: list.test((address / 64) as u32),
         }
     }

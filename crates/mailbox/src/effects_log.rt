@@ -1,5 +1,6 @@
 // The Command Effects Log, Get Supported Logs and Get Log (document 01, "Logs and identity").
 use crate::outcome::Done;
+use wire::returns;
 ghost use mathlib.Core.Path.{_≡_};
 ghost use Prim.Native.Nat.{_≤_};
 ghost use lib.ListN.{length};
@@ -79,7 +80,7 @@ const IDENTIFIER: [u8; 16] = [
 ];
 
 // Get Supported Logs.
-pub fn get_supported_logs(reply: &mut [u8]) -> Done
+pub(crate) fn get_supported_logs(reply: &mut [u8]) -> Done
     requires { ⌜ 28 ≤ length (now reply) ⌝ }
     ensures { λ r. ⌜ Replied get-supported-logs r (now (reply .entry)) (now (reply .exit)) ⌝ }
 {
@@ -88,32 +89,41 @@ pub fn get_supported_logs(reply: &mut [u8]) -> Done
     wire::copy(&IDENTIFIER, 0, 16, reply, 8);
     wire::put(reply, 24, 4, 48);
     Done {
-        code: 0,
+        code: returns::SUCCESS,
         length: 28,
     }
 }
 
 // Get Log. The offset and the length have 4 bytes each, so that their sum is one of whole numbers in 64 bits.
-pub fn get_log(payload: &[u8], reply: &mut [u8]) -> Done
+pub(crate) fn get_log(payload: &[u8], reply: &mut [u8]) -> Done
     requires { ⌜ (2048 ≤ length (now reply)) × (length (now payload) ≡ 24) ⌝ }
     ensures { λ r. ⌜ Replied (get-log (now (payload .entry))) r (now (reply .entry)) (now (reply .exit)) ⌝ }
 {
     if !wire::matches(payload, 0, &IDENTIFIER) {
         return Done {
-            code: 0x17,
+            code: returns::INVALID_LOG,
             length: 0,
         };
     }
     let offset = wire::get(payload, 16, 4);
     let size = wire::get(payload, 20, 4);
     if 2048 < size {
-        return Done { code: 2, length: 0 };
+        return Done {
+            code: returns::INVALID_INPUT,
+            length: 0,
+        };
     }
     if 48 < offset + size {
-        return Done { code: 2, length: 0 };
+        return Done {
+            code: returns::INVALID_INPUT,
+            length: 0,
+        };
     }
     let from = offset as usize;
     let n = size as usize;
     wire::copy(&EFFECTS, from, n, reply, 0);
-    Done { code: 0, length: n }
+    Done {
+        code: returns::SUCCESS,
+        length: n,
+    }
 }

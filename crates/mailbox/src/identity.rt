@@ -1,5 +1,6 @@
 // Identify (document 01, "Logs and identity").
 use crate::outcome::Done;
+use wire::returns;
 ghost use mathlib.Core.Path.{_≡_};
 ghost use Prim.Native.Nat.{_+_, _≤_};
 ghost use lib.ListN.{length};
@@ -40,7 +41,7 @@ const LIMITS: [u8; 29] = [
 ];
 
 // Identify, of a device of so many units.
-pub fn identify(volatile: u16, persistent: u16, reply: &mut [u8]) -> Done
+pub(crate) fn identify(volatile: u16, persistent: u16, reply: &mut [u8]) -> Done
     requires { ⌜ 69 ≤ length (now reply) ⌝ }
     ensures { λ r. ⌜ Replied (identify volatile persistent) r (now (reply .entry)) (now (reply .exit)) ⌝ }
 {
@@ -52,7 +53,7 @@ pub fn identify(volatile: u16, persistent: u16, reply: &mut [u8]) -> Done
     wire::put(reply, 32, 8, p);
     wire::copy(&LIMITS, 0, 29, reply, 40);
     Done {
-        code: 0,
+        code: returns::SUCCESS,
         length: 69,
     }
 }

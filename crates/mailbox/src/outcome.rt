@@ -1,5 +1,5 @@
 // What a command that reads gives: the return number and the length of the reply in the lent buffer.
-pub struct Done {
+pub(crate) struct Done {
     pub code: u16,
     pub length: usize,
 }

@@ -2,21 +2,22 @@
 // number of lines is made in 64 bits before it is known to fit: "Sums are of whole numbers."
 use crate::outcome::Done;
 use poison::list::PoisonList;
+use wire::returns;
 ghost use mathlib.Core.Path.{_≡_};
 ghost use mathlib.Core.Bool.{cond};
-ghost use Prim.Native.Nat.{_+_, _≤_, _<_, min};
+ghost use Prim.Native.Nat.{_+_, _≤_, _<_};
 ghost use lib.Dec.{eqb, leb, ltb};
 ghost use lib.ListN.{length};
 ghost use Rattle.wire.specs.Wire.{splice};
 ghost use Rattle.poison.specs.State.{capacity, ValidList, state-of};
-ghost use Rattle.mailbox.specs.Numbers.{poison-records, invalid-input, invalid-address};
-ghost use Rattle.mailbox.specs.Outcome.{need};
+ghost use Rattle.wire.specs.Returns.{invalid-input, invalid-address, need};
+ghost use Rattle.mailbox.specs.Numbers.{poison-records};
 ghost use Rattle.mailbox.specs.PoisonCommands.{aligned, line-code, range-code};
 ghost use Rattle.mailbox.specs.PoisonCommands.{list-flags, list-header, get-poison-list, inject-poison, clear-poison};
 ghost use Rattle.mailbox.specs.Contracts.{Replied, ListDone};
 
 // What a command that changes the list gives.
-pub struct ListChanged {
+pub(crate) struct ListChanged {
     pub code: u16,
     pub list: PoisonList,
 }
@@ -25,14 +26,22 @@ pub struct ListChanged {
 fn first_refusal(first: u16, second: u16) -> u16
     ensures { λ r. ⌜ r ≡ need (eqb first 0) first second ⌝ }
 {
-    if first != 0 { first } else { second }
+    if first != returns::SUCCESS {
+        first
+    } else {
+        second
+    }
 }
 
 // The check that an address is a line's.
 fn check_aligned(address: u64) -> u16
     ensures { λ r. ⌜ r ≡ need (aligned address) invalid-input 0 ⌝ }
 {
-    if address % 64 != 0 { 2 } else { 0 }
+    if address % 64 != 0 {
+        returns::INVALID_INPUT
+    } else {
+        returns::SUCCESS
+    }
 }
 
 // The check that n lines from a line on end on a device of `lines` lines. n is tested by itself first: the sum is then small.
@@ -42,20 +51,24 @@ fn check_end(lines: u32, line: u64, n: u64) -> u16
 {
     let all = lines as u64;
     if all < n {
-        return 0xf;
+        return returns::INVALID_ADDRESS;
     }
-    if all < line + n { 0xf } else { 0 }
+    if all < line + n {
+        returns::INVALID_ADDRESS
+    } else {
+        returns::SUCCESS
+    }
 }
 
 // The checks of one line of a device of `lines` lines, 0 where there is nothing to refuse.
-pub fn check_line(lines: u32, address: u64) -> u16
+pub(crate) fn check_line(lines: u32, address: u64) -> u16
     ensures { λ r. ⌜ r ≡ line-code lines address ⌝ }
 {
     check_range(lines, address, 1)
 }
 
 // The checks of n lines from an address on, 0 where there is nothing to refuse.
-pub fn check_range(lines: u32, address: u64, n: u64) -> u16
+pub(crate) fn check_range(lines: u32, address: u64, n: u64) -> u16
     ensures { λ r. ⌜ r ≡ range-code lines address n ⌝ }
 {
     let aligned = check_aligned(address);
@@ -64,13 +77,13 @@ pub fn check_range(lines: u32, address: u64, n: u64) -> u16
 }
 
 // Inject Poison.
-pub fn inject(list: PoisonList, lines: u32, payload: &[u8]) -> ListChanged
+pub(crate) fn inject(list: PoisonList, lines: u32, payload: &[u8]) -> ListChanged
     requires { ⌜ ValidList lines list × (lines ≤ capacity) × (length (now payload) ≡ 8) ⌝ }
     ensures { λ r. ⌜ ListDone (inject-poison lines (state-of list) (now (payload .entry))) lines list r ⌝ }
 {
     let address = wire::get(payload, 0, 8);
     let code = check_line(lines, address);
-    if code != 0 {
+    if code != returns::SUCCESS {
         return ListChanged { code, list };
     }
     let line = (address / 64) as u32;
@@ -78,31 +91,31 @@ pub fn inject(list: PoisonList, lines: u32, payload: &[u8]) -> ListChanged
     let next = injected.list;
     if injected.done {
         ListChanged {
-            code: 0,
+            code: returns::SUCCESS,
             list: next,
         }
     } else {
         ListChanged {
-            code: 0x10,
+            code: returns::INJECT_LIMIT,
             list: next,
         }
     }
 }
 
 // Clear Poison, at a device time. The payload's data is the caller's to write.
-pub fn clear(list: PoisonList, lines: u32, payload: &[u8], time: u64) -> ListChanged
+pub(crate) fn clear(list: PoisonList, lines: u32, payload: &[u8], time: u64) -> ListChanged
     requires { ⌜ ValidList lines list × (lines ≤ capacity) × (length (now payload) ≡ 72) ⌝ }
     ensures { λ r. ⌜ ListDone (clear-poison lines (state-of list) (now (payload .entry)) time) lines list r ⌝ }
 {
     let address = wire::get(payload, 0, 8);
     let code = check_line(lines, address);
-    if code != 0 {
+    if code != returns::SUCCESS {
         return ListChanged { code, list };
     }
     let line = (address / 64) as u32;
     let next = list.clear(line, time);
     ListChanged {
-        code: 0,
+        code: returns::SUCCESS,
         list: next,
     }
 }
@@ -148,32 +161,25 @@ fn time_shown(overflow: bool, time: u64) -> u64
     if overflow { time } else { 0 }
 }
 
-// How many records a reply carries of n found: at most 126.
-fn carried(n: usize) -> usize
-    ensures { λ r. ⌜ r ≡ min poison-records n ⌝ }
-{
-    if n < 126 { n } else { 126 }
-}
-
 // Get Poison List. The records are written first: that tells how many entries share a line with the range, which the header says.
-pub fn get(list: PoisonList, lines: u32, payload: &[u8], reply: &mut [u8]) -> Done
+pub(crate) fn get(list: PoisonList, lines: u32, payload: &[u8], reply: &mut [u8]) -> Done
     requires { ⌜ ValidList lines list × (lines ≤ capacity) × (length (now payload) ≡ 16) × (2048 ≤ length (now reply)) ⌝ }
     ensures { λ r. ⌜ Replied (get-poison-list lines (state-of list) (now (payload .entry))) r (now (reply .entry)) (now (reply .exit)) ⌝ }
 {
     let address = wire::get(payload, 0, 8);
     let n = wire::get(payload, 8, 8);
     let code = check_range(lines, address, n);
-    if code != 0 {
+    if code != returns::SUCCESS {
         return Done { code, length: 0 };
     }
-    let overflow = list.overflow;
-    let time = list.overflow_time;
+    let overflow = list.overflowed();
+    let time = list.overflowed_at();
     let from = (address / 64) as u32;
     let found = list.put_records(from, n as u32, 126, reply, 32);
-    let count = carried(found);
+    let count = wire::least(126, found);
     put_header(reply, overflow, time, found, count);
     Done {
-        code: 0,
+        code: returns::SUCCESS,
         length: 32 + 16 * count,
     }
 }

@@ -10,22 +10,22 @@ use lib.Dec.{leb}
 use lib.ListN.{getD}
 use Rattle.poison.specs.Search.{Ascending, LastStart}
 
--- ---- a test of order as 1 or 0, and a step that it scales; s and l are the start and the line in 64 bits
-module _ (base half start line s l : ℕ) (es : s ≡ start) (el : l ≡ line) (s-fits : s < 4294967296) (l-fits : l < 4294967296) where
-  by-test : (b : Bool) → leb start line ≡ b → (half * ((l + 4294967296 - s) / 4294967296) ≤ half) × (base + half * ((l + 4294967296 - s) / 4294967296) ≡ cond b (base + half) base)
+-- ---- a test of order as 1 or 0, and a step that it scales
+module _ (base half start line : ℕ) (start-fits : start < 4294967296) (line-fits : line < 4294967296) where
+  by-test : (b : Bool) → leb start line ≡ b → (half * ((line + 4294967296 - start) / 4294967296) ≤ half) × (base + half * ((line + 4294967296 - start) / 4294967296) ≡ cond b (base + half) base)
   by-test true t =
       let o : start ≤ line = leb-true start line t in
-      let one : (l + 4294967296 - s) / 4294967296 ≡ 1 = omega arith in
+      let one : (line + 4294967296 - start) / 4294967296 ≡ 1 = omega arith in
       (rw one (omega arith), rw one (omega arith))
   by-test false t =
       let o : line < start = leb-false start line t in
-      let none : (l + 4294967296 - s) / 4294967296 ≡ 0 = omega arith in
+      let none : (line + 4294967296 - start) / 4294967296 ≡ 0 = omega arith in
       (rw none (omega arith), rw none (omega arith))
 
-  pub at-most : half * ((l + 4294967296 - s) / 4294967296) ≤ half
+  pub at-most : half * ((line + 4294967296 - start) / 4294967296) ≤ half
   at-most = by-test (leb start line) refl .0
 
-  pub stepped : base + half * ((l + 4294967296 - s) / 4294967296) ≡ cond (leb start line) (base + half) base
+  pub stepped : base + half * ((line + 4294967296 - start) / 4294967296) ≡ cond (leb start line) (base + half) base
   stepped = by-test (leb start line) refl .1
 
 -- ---- the loop: the `size` places from `base` on are left

@@ -1,4 +1,5 @@
--- The laws of the list's rules that a caller cites, each with its sentence in words. Assumes nothing.
+-- The laws of the poison list, each with its sentence in words. This is the one file of proofs/ that a crate above may cite (`tests/layers`): these laws, the
+-- definitions of specs/ and the functions' contracts are the layer's stated behaviour. The other files of proofs/ may change at any time. Assumes nothing.
 use mathlib.Core.Path.{_≡_, refl, sym, ap, _∙_}
 use mathlib.Core.Bool.{Bool, true, false, not, _&&_, _||_, cond, true≢false, false≢true, and-false}
 use mathlib.Core.List.{List, [], _∷_, _++_, map, List·Memᴰ, List·Memᴰ·head, List·Memᴰ·tail, List·Memᴰ·cases-cons}
@@ -6,17 +7,41 @@ use mathlib.Core.Logic.{_⊎_, inl, inr}
 use Prim.Native.Nat.{ℕ, _+_, _-_, _≤_, _<_}
 use native.Mathlib.Omega.{arith}
 use lib.Dec.{ltb}
-use lib.ListN.{length, take, drop, take-append-drop}
-use Rattle.poison.specs.Runs.{Run, run, in-run, in-runs, count, Chain, uncovered, room, before, after}
-use Rattle.poison.specs.State.{Entry, PoisonState, shape, shapes, entry, covers, kind-at, insert-entry, insert-entries, Typed}
+use borrow.Author.Tests.{ltb-true}
+use lib.ListN.{length, take, drop, take-append-drop, length-map, length-take}
+use Rattle.poison.specs.declared.list.PoisonList.{PoisonList}
+use Rattle.poison.specs.Runs.{Run, run, in-run, in-runs, count, Chain, cut, slots, uncovered, room, keeps, before, after}
+use Rattle.poison.specs.State.{Entry, PoisonState, shape, shapes, entry, covers, kind-at, insert-entry, insert-entries, entries-of, Typed, ValidList}
 use Rattle.poison.specs.Report.{found, stored-runs, report-entries, lines-stored, lines-dropped, with-drop, after-report}
-use Rattle.poison.specs.Inject.{with-entry, after-inject}
-use Rattle.poison.specs.Clear.{cut-entries}
+use Rattle.poison.specs.Inject.{with-entry, injects, after-inject}
+use Rattle.poison.specs.Clear.{cut-entries, after-clear}
 use Rattle.poison.proofs.Moves.{nought}
-use Rattle.poison.proofs.Counts.{Place, low, mid, high, place, count-chain, count-cong}
-use Rattle.poison.proofs.RunLaws.{chain-runs-of, chain-take, chain-higher, chain-insert-all, chain-insert, chain-cut, in-append, in-runs-of}
-use Rattle.poison.proofs.Shapes.{shapes-entry, shapes-insert, shapes-insert-all, shapes-cut}
-use Rattle.poison.proofs.Extents.{total-take-drop, Gaps, gaps-runs-of}
+use Rattle.poison.proofs.Counts.{or-left, or-right, Place, low, mid, high, place, count-chain, count-cong}
+use Rattle.poison.proofs.RunLaws.{chain-runs-of, chain-take, chain-higher, chain-insert-all, chain-insert, chain-cut, few-cut, in-append, in-runs-of}
+use Rattle.poison.proofs.Shapes.{length-insert-entry, shapes-entry, shapes-insert, shapes-insert-all, shapes-cut}
+use Rattle.poison.proofs.Extents.{total-take-drop, gaps-runs-of}
+-- ---- laws that are proved in other files, and passed on
+-- `Gaps`: between any two of some runs there is a line.
+pub use Rattle.poison.proofs.Extents.{Gaps}
+-- An entry counts as sharing a line with a range exactly if some line is in both.
+pub use Rattle.poison.proofs.Sharing.{shares-some, some-shares}
+-- The entries that share a line with a range, cut to it: they cover what the list covers of the range, line by line with the same type, in ascending order.
+pub use Rattle.poison.proofs.Sharing.{covers-sharing, kind-sharing, chain-sharing}
+-- Records have 16 bytes each; the type, the zero bits and the line are read back from a record's address.
+pub use Rattle.poison.proofs.Records.{length-records, unpacked}
+-- `Consistent`: what holds of a list and the paper of demand 3 after any changes. It holds of a new list and a blank paper,
+pub use Rattle.poison.proofs.Agreement.{Consistent, consistent-blank}
+-- it is kept by a media report, by an injection that is taken, and by a clear,
+pub use Rattle.poison.proofs.Agreement.{consistent-report, consistent-inject, consistent-clear}
+-- and it gives what demand 3 asks of the list (`Agrees`).
+pub use Rattle.poison.proofs.Agreement.{agrees}
+-- What is dropped, line by line: by a report only lines past every line stored, and only where 256 entries are held after it; by a clearing the part after
+-- the line, exactly with 256 held and both parts left. After a clearing every other line is covered as before.
+pub use Rattle.poison.proofs.Drops.{stored-first, dropped-when-full, BothLeft, dropped-by-clear, all-dropped-by-clear, left-by-clear}
+-- `Flags`: a change never clears the overflow flag, and where it sets the flag, some line is in the dropped set after it. So for each of the three.
+pub use Rattle.poison.proofs.Drops.{Flags, report-flags, inject-flags, clear-flags}
+-- A line that a report stores has the report's type, one that an injection stores has type 3, one that a clearing leaves covered keeps its type.
+pub use Rattle.poison.proofs.Types.{report-type, inject-type, clear-type}
 
 -- ---- the runs of a report
 -- The runs are exactly the uncovered lines of the extent.
@@ -83,6 +108,36 @@ chain-inject n k kind es c h e = chain-insert-entry n k 1 kind es c (omega arith
 pub chain-clear : (n k : ℕ) (keep : Bool) (es : List Entry) → Chain 0 n (shapes es) → Chain 0 n (shapes (cut-entries keep k es))
 chain-clear n k keep es c = rw (shapes-cut keep k es) (chain-cut 0 n keep k (shapes es) c)
 
+-- ---- at most 256 entries
+-- as many entries more as are put in
+length-insert-entries : (es xs : List Entry) → length (insert-entries es xs) ≡ length es + length xs
+length-insert-entries [] xs = omega arith
+length-insert-entries (e ∷ es) xs = length-insert-entries es (insert-entry e xs) ∙ omega (arith, length-insert-entry e xs)
+
+-- After a report,
+pub few-report : (s : PoisonState) (a l kind time : ℕ) → length (s .entries) ≤ slots → length (after-report s a l kind time .entries) ≤ slots
+unfolding with-drop report-entries
+few-report s a l kind time few = rw (length-insert-entries, length-map, length-take) (omega arith)
+
+-- after an injection that is taken,
+pub few-inject : (s : PoisonState) (k : ℕ) → length (s .entries) ≤ slots → injects s k ≡ true → length (after-inject s k .entries) ≤ slots
+few-inject s k few i = go (covers (s .entries) k) refl
+  where
+    go : (b : Bool) → covers (s .entries) k ≡ b → length (after-inject s k .entries) ≤ slots
+    go true c = rw c few
+    go false c = rw c (rw length-insert-entry (ltb-true (length (s .entries)) slots (sym (rw c refl) ∙ i)))
+
+-- after a clear.
+pub few-clear : (s : PoisonState) (k time : ℕ) → length (s .entries) ≤ slots → length (after-clear s k time .entries) ≤ slots
+unfolding with-drop
+few-clear s k time few =
+    let E : List Run = shapes (s .entries) in
+    let long : length (cut-entries (keeps k E) k (s .entries)) ≡ length (cut (keeps k E) k E) =
+    sym (length-map (cut-entries (keeps k E) k (s .entries)) shape) ∙ ap length (shapes-cut (keeps k E) k (s .entries))
+    in
+    let same : length E ≡ length (s .entries) = length-map (s .entries) shape in
+    rw long (few-cut k E (rw same few))
+
 -- ---- every type has three bits
 pub typed-insert : (e : Entry) (es : List Entry) → e .kind < 8 → Typed es → Typed (insert-entry e es)
 typed-insert e [] h t = (h, tt)
@@ -127,6 +182,11 @@ typed-clear keep k (e ∷ es) t = go (in-run (shape e) k) (typed-clear keep k es
     go : (b : Bool) → Typed (cut-entries keep k es) → Typed (cond b (F ++ (cond keep B [] ++ es)) (e ∷ cut-entries keep k es))
     go true i = typed-append F (cond keep B [] ++ es) (typed-map (e .kind) (before k (shape e)) (t .0)) (typed-append (cond keep B []) es (part keep) (t .1))
     go false i = (t .0, i)
+
+-- ---- valid lists
+-- A list that is valid on a device is valid on a larger one.
+pub valid-more : {n m : ℕ} {l : PoisonList} → n ≤ m → ValidList n l → ValidList m l
+valid-more {n} {m} {l} h v = record { few = v .few; chain = chain-higher 0 n m (shapes (entries-of l)) h (v .chain); typed = v .typed }
 
 -- ---- entries are never merged
 -- an entry held before another is put in is still there after it
@@ -178,14 +238,6 @@ insert-over e (x ∷ es) k h = go (ltb (e .start) (x .start)) (insert-over e es 
     go : (b : Bool) → entry-over (insert-entry e es) k ≡ entry-over es k → entry-over (cond b (e ∷ x ∷ es) (x ∷ insert-entry e es)) k ≡ cond (in-run (shape x) k) x (entry-over es k)
     go true i = rw h
     go false i = rw i
-
-or-left : (b c : Bool) → (b || c) ≡ false → b ≡ false
-or-left true c h = absurd (true≢false h)
-or-left false c h = refl
-
-or-right : (b c : Bool) → (b || c) ≡ false → c ≡ false
-or-right true c h = absurd (true≢false h)
-or-right false c h = h
 
 insert-all-over : (kind : ℕ) (rs : List Run) (es : List Entry) (k : ℕ) → in-runs rs k ≡ false → entry-over (insert-entries (map (entry kind) rs) es) k ≡ entry-over es k
 insert-all-over kind [] es k h = refl

@@ -1,4 +1,4 @@
--- The laws of crate `poison` that more than one proof cites, by subject.
+-- The laws of crate `poison` that more than one proof cites, by subject. A crate above cites Laws alone.
 pub mod Moves
 pub mod Counts
 pub mod RunLaws

@@ -7,16 +7,27 @@ use Prim.Native.Nat.{ℕ, zero, suc, _+_, _-_, _≤_, _<_}
 use native.Mathlib.Omega.{arith}
 use lib.Dec.{ltb}
 use lib.ListN.{length, take, drop, getD, set, length-map, length-set}
-use lib.Seq.{set-getD, take-set-lt, drop-set-lt}
+use lib.Seq.{set-getD, take-set-lt}
 use Rattle.poison.specs.declared.list.PoisonList.{PoisonList}
 use Rattle.poison.specs.Runs.{Run, run, total}
 use Rattle.poison.specs.Shift.{zip, putAt, pullAt}
-use Rattle.poison.specs.State.{Entry, PoisonState, entry, shape, shapes, runs-in, entries-in, entries-of, state-of, insert-entry, damage-total, sum-of}
+use Rattle.poison.specs.State.{Entry, PoisonState, entry, shape, shapes, runs-in, entries-in, entries-of, state-of, insert-entry, damage-total}
 use Rattle.poison.specs.Search.{place-of}
-use Rattle.poison.specs.List.{InsertedAt, Inserted, RemovedAt, ReplacedAt}
-use Rattle.poison.proofs.Moves.{take-put, drop-put, take-pull, drop-pull, first-le}
+use Rattle.poison.specs.List.{with-entries, InsertedAt, Inserted}
+use Rattle.poison.proofs.Moves.{take-put, drop-put, take-pull, first-le}
 use Rattle.poison.proofs.Zips.{length-zip, zip-put, zip-pull, zip-set}
 use Rattle.poison.proofs.Views.{Sized, typed-as, same-lengths, same-kinds, shapes-of, length-entries}
+
+-- ---- what `clear` does in place, by the view
+-- r is l without the entry at place `at`
+pub record RemovedAt (l : PoisonList) (at : ℕ) (r : PoisonList) : Type 0 where
+  pub state : state-of r ≡ with-entries (state-of l) (take at (entries-of l) ++ drop (at + 1) (entries-of l))
+  pub count : r .count ≡ l .count - 1
+
+-- r is l with another entry at place `at`
+pub record ReplacedAt (l : PoisonList) (at start lines kind : ℕ) (r : PoisonList) : Type 0 where
+  pub state : state-of r ≡ with-entries (state-of l) (set (entries-of l) at (entry kind (run start lines)))
+  pub count : r .count ≡ l .count
 
 -- ---- the entries, where the same is done to each of the three arrays
 module _ (starts lengths kinds : List ℕ) (same : length starts ≡ length lengths) (same-k : length starts ≡ length kinds) where
@@ -119,12 +130,6 @@ module _ (l : PoisonList) (sized : Sized l) where
             ∙ ap (λ (m : ℕ). take at (entries-in m (l .starts) (l .lengths) (l .kinds)) ++ drop (at + 1) (entries-in m (l .starts) (l .lengths) (l .kinds))) n)
             o t;
         count = d;
-        past =
-            record {
-              starts = rw a (rw n at (drop-pull (l .starts) 0 at (l .count - 1) w (rw (sized .starts) u)));
-              lengths = rw b (rw n at (drop-pull (l .lengths) 0 at (l .count - 1) w (rw (sized .lengths) u)));
-              kinds = rw c (rw n at (drop-pull (l .kinds) 0 at (l .count - 1) w (rw (sized .kinds) u)));
-            };
       }
 
   pub replaced-at : (r : PoisonList) (at start lines : ℕ) → at < l .count → r .starts ≡ set (l .starts) at start → r .lengths ≡ set (l .lengths) at lines → r .kinds ≡ l .kinds → r .count ≡ l .count → r .overflow ≡ l .overflow → r .«overflow_time» ≡ l .«overflow_time» → ReplacedAt l at start lines (getD (l .kinds) at 0) r
@@ -135,12 +140,6 @@ module _ (l : PoisonList) (sized : Sized l) where
             (rw (a, b, c, d) (entries-set (l .starts) (l .lengths) (l .kinds) (same-lengths l sized) (same-kinds l sized) at (l .count) start lines h))
             o t;
         count = d;
-        past =
-            record {
-              starts = rw a (drop-set-lt (l .count) (l .starts) at start h);
-              lengths = rw b (drop-set-lt (l .count) (l .lengths) at lines h);
-              kinds = rw c refl;
-            };
       }
 
 -- ---- another length at a place, the start and the type as they were
@@ -156,6 +155,11 @@ module _ (l : PoisonList) (sized : Sized l) (at lines : ℕ) where
   shortened-at h = replaced-at l sized (shortened l at lines) at (getD (l .starts) at 0) lines h (sym (set-getD (l .starts) at 0)) refl refl refl refl refl
 
 -- ---- the sum of the lengths
+-- the sum of some numbers
+abbrev pub sum-of : List ℕ → ℕ
+sum-of [] = 0
+sum-of (n ∷ ns) = n + sum-of ns
+
 pub sum-next : (ns : List ℕ) (i : ℕ) → sum-of (take (suc i) ns) ≡ sum-of (take i ns) + getD ns i 0
 sum-next [] zero = refl
 sum-next [] (suc i) = refl

@@ -6,7 +6,7 @@ use Prim.Native.Nat.{ℕ, zero, suc, _+_, _-_, _≤_, _<_}
 use native.Mathlib.Numerals.{add-one}
 use native.Mathlib.Omega.{arith}
 use lib.ListN.{length, take, drop, getD, set, length-append, length-take, length-drop, take-append-drop, List·getD-append}
-use lib.Seq.{drop-append-add, drop-drop, getD-drop, getD-append-add, take-at, drop-at, take-take, take-nil, split-at, take-suc, drop-cons, set-at, length-take-le, getD-take}
+use lib.Seq.{getD-drop, getD-append-add, take-at, drop-at, take-take, take-nil, split-at, take-suc, drop-cons, set-at, length-take-le, getD-take}
 use Rattle.poison.specs.State.{Entry}
 use Rattle.poison.specs.Shift.{putAt, pullAt, first-at}
 
@@ -158,11 +158,6 @@ module _ {A : Type 0} (l : List A) (d : A) where
   take-pull at n h k =
       let z : n + 1 - (at + 1) ≡ n - at = omega arith in
       rw (pull-split at n) (take-at (kept at n) (drop n l) n (len-kept at n h k) ∙ rw (take-take at (n + 1) l (omega arith), drop-take (at + 1) (n + 1) l, z))
-
-  pub drop-pull : (at n : ℕ) → at ≤ n → n < length l → drop (n + 1) (pullAt at n l) ≡ drop (n + 1) l
-  drop-pull at n h k =
-      let e : n ≡ length (kept at n) = sym (len-kept at n h k) in
-      rw (pull-split at n) (ap (λ (m : ℕ). drop (m + 1) (kept at n ++ drop n l)) e ∙ drop-append-add (kept at n) (drop n l) 1 ∙ drop-drop 1 n l)
 
 pub first-holds : {A : Type 0} (p : A → Bool) (d : A) (l : List A) → first-at p l < length l → p (getD l (first-at p l) d) ≡ true
 first-holds p d [] h = absurd (omega arith)

@@ -1,5 +1,4 @@
--- What small changes of the list in memory come to, by the view: an entry put at a place, put in its place, taken away or replaced (as `clear` does in
--- place); the flag set.
+-- What small changes of the list in memory come to, by the view: an entry put at a place, or put in its place; the flag set.
 use mathlib.Core.Path.{_≡_}
 use mathlib.Core.Bool.{true, cond}
 use mathlib.Core.List.{List, _∷_, _++_}
@@ -30,18 +29,6 @@ pub record Inserted (l : PoisonList) (start lines kind : ℕ) (r : PoisonList) :
   pub state : state-of r ≡ with-entries (state-of l) (insert-entry (entry kind (run start lines)) (entries-of l))
   pub count : r .count ≡ l .count + 1
   pub past : SamePast (l .count + 1) l r
-
--- r is l without the entry at place `at`
-pub record RemovedAt (l : PoisonList) (at : ℕ) (r : PoisonList) : Type 0 where
-  pub state : state-of r ≡ with-entries (state-of l) (take at (entries-of l) ++ drop (at + 1) (entries-of l))
-  pub count : r .count ≡ l .count - 1
-  pub past : SamePast (l .count) l r
-
--- r is l with another entry at place `at`
-pub record ReplacedAt (l : PoisonList) (at start lines kind : ℕ) (r : PoisonList) : Type 0 where
-  pub state : state-of r ≡ with-entries (state-of l) (set (entries-of l) at (entry kind (run start lines)))
-  pub count : r .count ≡ l .count
-  pub past : SamePast (l .count) l r
 
 -- r is l after a drop at a time: the flag is set, and the first drop sets the overflow time
 pub record Flagged (l : PoisonList) (time : ℕ) (r : PoisonList) : Type 0 where

@@ -3,7 +3,7 @@
 use mathlib.Core.Path.{_≡_}
 use mathlib.Core.Bool.{Bool, false, cond}
 use mathlib.Core.List.{List, [], _∷_, map}
-use Prim.Native.Nat.{ℕ, _+_, _≤_, _<_}
+use Prim.Native.Nat.{ℕ, _≤_, _<_}
 use lib.Dec.{ltb}
 use lib.ListN.{length, take}
 use Rattle.poison.specs.declared.list.PoisonList.{PoisonList}
@@ -71,11 +71,6 @@ entries-of l = entries-in (l .count) (l .starts) (l .lengths) (l .kinds)
 
 abbrev pub state-of : PoisonList → PoisonState
 state-of l = record { entries = entries-of l; overflow = l .overflow; overflow-time = l .«overflow_time» }
-
--- the sum of some numbers
-abbrev pub sum-of : List ℕ → ℕ
-sum-of [] = 0
-sum-of (n ∷ ns) = n + sum-of ns
 
 -- ---- validity
 -- the lines of the largest device: 1,023 units of 4,194,304 lines

@@ -4,31 +4,16 @@ use crate::search;
 use crate::shift;
 ghost use mathlib.Core.Path.{_≡_};
 ghost use Prim.Native.Nat.{_≤_, _<_};
-ghost use lib.ListN.{take};
-ghost use Rattle.poison.specs.State.{state-of, capacity, ValidList, Made, damage-total, sum-of};
+ghost use Rattle.poison.specs.State.{state-of, capacity, ValidList, Made, damage-total};
 ghost use Rattle.poison.specs.List.{InsertedAt, Inserted, Flagged};
 
 pub struct PoisonList {
-    pub starts: [u32; 256],
-    pub lengths: [u32; 256],
-    pub kinds: [u8; 256],
-    pub count: usize,
-    pub overflow: bool,
-    pub overflow_time: u64,
-}
-
-// The sum of the first n lengths.
-fn sum(lengths: &[u32; 256], n: usize) -> u64
-    requires { ⌜ n ≤ 256 ⌝ }
-    ensures { λ r. ⌜ r ≡ sum-of (take n (now (lengths .entry))) ⌝ }
-{
-    let mut total: u64 = 0;
-    let mut i: usize = 0;
-    while i < n {
-        total += search::wide(lengths[i]);
-        i += 1;
-    }
-    total
+    pub(crate) starts: [u32; 256],
+    pub(crate) lengths: [u32; 256],
+    pub(crate) kinds: [u8; 256],
+    pub(crate) count: usize,
+    pub(crate) overflow: bool,
+    pub(crate) overflow_time: u64,
 }
 
 impl PoisonList {
@@ -51,12 +36,33 @@ impl PoisonList {
         requires { ⌜ ValidList capacity self ⌝ }
         ensures { λ r. ⌜ r ≡ damage-total (state-of self) ⌝ }
     {
-        sum(&self.lengths, self.count)
+        let n = self.count;
+        let mut total: u64 = 0;
+        let mut i: usize = 0;
+        while i < n {
+            total += self.lengths[i] as u64;
+            i += 1;
+        }
+        total
+    }
+
+    // The overflow flag.
+    pub fn overflowed(self) -> bool
+        ensures { λ r. ⌜ r ≡ state-of self .overflow ⌝ }
+    {
+        self.overflow
+    }
+
+    // The overflow time.
+    pub fn overflowed_at(self) -> u64
+        ensures { λ r. ⌜ r ≡ state-of self .overflow-time ⌝ }
+    {
+        self.overflow_time
     }
 
     // The list with an entry more at place `at`: entries move within the arrays, and the slots past the new last entry keep what they
     // held.
-    pub fn insert_at(mut self, at: usize, start: u32, lines: u32, kind: u8) -> Self
+    fn insert_at(mut self, at: usize, start: u32, lines: u32, kind: u8) -> Self
         requires { ⌜ (at ≤ self .count) × (self .count < 256) ⌝ }
         ensures { λ r. ⌜ InsertedAt self at start lines kind r ⌝ }
     {
@@ -69,7 +75,7 @@ impl PoisonList {
     }
 
     // The list with an entry more, in its place in address order.
-    pub fn insert(self, start: u32, lines: u32, kind: u8) -> Self
+    pub(crate) fn insert(self, start: u32, lines: u32, kind: u8) -> Self
         requires { ⌜ ValidList capacity self × (self .count < 256) ⌝ }
         ensures { λ r. ⌜ Inserted self start lines kind r ⌝ }
     {
@@ -79,7 +85,7 @@ impl PoisonList {
     }
 
     // The list after a drop: the first drop sets the overflow time.
-    pub fn with_overflow(mut self, time: u64) -> Self
+    pub(crate) fn with_overflow(mut self, time: u64) -> Self
         ensures { λ r. ⌜ Flagged self time r ⌝ }
     {
         let before = self.overflow;

@@ -5,19 +5,12 @@ use crate::list::PoisonList;
 use crate::search;
 ghost use mathlib.Core.Path.{_≡_};
 ghost use mathlib.Core.List.{map};
-ghost use Prim.Native.Nat.{_+_, _*_, _≤_, _<_, min, max};
+ghost use Prim.Native.Nat.{_+_, _*_, _≤_, _<_, max};
 ghost use lib.ListN.{length, drop};
 ghost use Rattle.wire.specs.Wire.{splice};
 ghost use Rattle.poison.specs.Runs.{run};
 ghost use Rattle.poison.specs.State.{capacity, entry, runs-in, entries-in, ValidRuns, ValidList};
 ghost use Rattle.poison.specs.Range.{first-past, cut-to, record-bytes, records-bytes, Cuttable, Writable, Wrote};
-
-// The lower of two lines.
-fn lower(a: u32, b: u32) -> u32
-    ensures { λ r. ⌜ r ≡ min a b ⌝ }
-{
-    if a < b { a } else { b }
-}
 
 // The higher of two lines.
 fn higher(a: u32, b: u32) -> u32
@@ -43,7 +36,7 @@ fn put_cut(d: &mut [u8], at: usize, from: u32, n: u32, start: u32, lines: u32, k
     ensures { λ _. ⌜ now (d .exit) ≡ splice at (record-bytes (cut-to from n (entry kind (run start lines)))) (now (d .entry)) ⌝ }
 {
     let first = higher(from, start);
-    let end = lower(from + n, start + lines);
+    let end = wire::least((from + n) as usize, (start + lines) as usize) as u32;
     put_record(d, at, first, end - first, kind);
 }
 
@@ -95,7 +88,7 @@ impl PoisonList {
         let count = self.count;
         let first = first_past(&self.starts, &self.lengths, count, from);
         let number = search::place(&self.starts, &self.lengths, count, from + lines - 1) - first;
-        let m = if number < limit { number } else { limit };
+        let m = wire::least(number, limit);
         put_neighbours(
             &self.starts,
             &self.lengths,

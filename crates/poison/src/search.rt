@@ -7,19 +7,12 @@ ghost use lib.Dec.{leb};
 ghost use Rattle.poison.specs.State.{capacity, runs-in, ValidRuns};
 ghost use Rattle.poison.specs.Search.{cover-at, place-of, Ascending, LastStart};
 
-// A number of lines in 64 bits.
-pub fn wide(x: u32) -> u64
-    ensures { λ r. ⌜ (r ≡ x) × (r < 4294967296) ⌝ }
-{
-    x as u64
-}
-
 // The place `half` on if the entry looked at starts at or before the line, else the same place; by arithmetic, with no branch.
 fn step(base: usize, half: usize, start: u32, line: u32) -> usize
     requires { ⌜ base + half ≤ 256 ⌝ }
     ensures { λ r. ⌜ r ≡ cond (leb start line) (base + half) base ⌝ }
 {
-    let ahead = wide(line) + 4294967296 - wide(start);
+    let ahead = (line as u64) + 4294967296 - (start as u64);
     let bit = (ahead / 4294967296) as usize;
     base + half * bit
 }
@@ -41,7 +34,12 @@ fn last_start(starts: &[u32; 256], count: usize, line: u32) -> usize
 }
 
 // The place of the entry over a line, or the number of entries where none covers it.
-pub fn cover<'a>(starts: &'a [u32; 256], lengths: &'a [u32; 256], count: usize, line: u32) -> usize
+pub(crate) fn cover<'a>(
+    starts: &'a [u32; 256],
+    lengths: &'a [u32; 256],
+    count: usize,
+    line: u32,
+) -> usize
     requires { ⌜ ValidRuns capacity count (now starts) (now lengths) ⌝ }
     ensures { λ r. ⌜ r ≡ cover-at (runs-in count (now (starts .entry)) (now (lengths .entry))) line ⌝ }
 {
@@ -60,7 +58,12 @@ pub fn cover<'a>(starts: &'a [u32; 256], lengths: &'a [u32; 256], count: usize, 
 }
 
 // The place of an entry that starts at a line: before the first that starts past it.
-pub fn place<'a>(starts: &'a [u32; 256], lengths: &'a [u32; 256], count: usize, line: u32) -> usize
+pub(crate) fn place<'a>(
+    starts: &'a [u32; 256],
+    lengths: &'a [u32; 256],
+    count: usize,
+    line: u32,
+) -> usize
     requires { ⌜ ValidRuns capacity count (now starts) (now lengths) ⌝ }
     ensures { λ r. ⌜ r ≡ place-of (runs-in count (now (starts .entry)) (now (lengths .entry))) line ⌝ }
 {

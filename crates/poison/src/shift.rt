@@ -6,7 +6,7 @@ ghost use lib.ListN.{length};
 ghost use Rattle.poison.specs.Shift.{putAt, pullAt};
 
 // Puts v at place `at` of the n numbers held: those from there on move up by one slot.
-pub fn put_number(numbers: &mut [u32; 256], at: usize, n: usize, v: u32)
+pub(crate) fn put_number(numbers: &mut [u32; 256], at: usize, n: usize, v: u32)
     requires { ⌜ (at ≤ n) × (n < 256) × (length (now numbers) ≡ 256) ⌝ }
     ensures { λ _. ⌜ now (numbers .exit) ≡ putAt at n v (now (numbers .entry)) ⌝ }
 {
@@ -19,7 +19,7 @@ pub fn put_number(numbers: &mut [u32; 256], at: usize, n: usize, v: u32)
 }
 
 // The same for types.
-pub fn put_kind(kinds: &mut [u8; 256], at: usize, n: usize, v: u8)
+pub(crate) fn put_kind(kinds: &mut [u8; 256], at: usize, n: usize, v: u8)
     requires { ⌜ (at ≤ n) × (n < 256) × (length (now kinds) ≡ 256) ⌝ }
     ensures { λ _. ⌜ now (kinds .exit) ≡ putAt at n v (now (kinds .entry)) ⌝ }
 {
@@ -32,7 +32,7 @@ pub fn put_kind(kinds: &mut [u8; 256], at: usize, n: usize, v: u8)
 }
 
 // Takes the element at place `at` away from the last + 1 held: those after it move down by one slot.
-pub fn pull_number(numbers: &mut [u32; 256], at: usize, last: usize)
+pub(crate) fn pull_number(numbers: &mut [u32; 256], at: usize, last: usize)
     requires { ⌜ (at ≤ last) × (last < 256) × (length (now numbers) ≡ 256) ⌝ }
     ensures { λ _. ⌜ now (numbers .exit) ≡ pullAt at last (now (numbers .entry)) ⌝ }
 {
@@ -44,7 +44,7 @@ pub fn pull_number(numbers: &mut [u32; 256], at: usize, last: usize)
 }
 
 // The same for types.
-pub fn pull_kind(kinds: &mut [u8; 256], at: usize, last: usize)
+pub(crate) fn pull_kind(kinds: &mut [u8; 256], at: usize, last: usize)
     requires { ⌜ (at ≤ last) × (last < 256) × (length (now kinds) ≡ 256) ⌝ }
     ensures { λ _. ⌜ now (kinds .exit) ≡ pullAt at last (now (kinds .entry)) ⌝ }
 {

@@ -1,4 +1,4 @@
--- Laws of the definitions of `specs/Wire.antt`, each over the width. Assumes nothing.
+-- Laws of the definitions of `specs/`, those of `Wire.antt` each over the width. Assumes nothing.
 use mathlib.Core.Path.{_≡_, refl, sym, ap, ap₂, _∙_, subst}
 use mathlib.Core.List.{List, [], _∷_, _++_}
 use Prim.Native.Nat.{ℕ, zero, suc, _+_, _-_, _*_, _/_, _%_, _^_, _≤_, _<_}
@@ -9,8 +9,9 @@ use lib.ListN.{length, take, drop, getD, set, length-take, length-drop}
 use lib.Seq.{sets, sets-eq, length-sets, drop-cons}
 use lib.Pow.{pow-add}
 use native.Mathlib.Nat.{pow-le-pow-right, zero-lt-suc}
-use Rattle.wire.specs.Wire.{le, number, part, field, splice, same, both}
-use mathlib.Core.Bool.{true}
+use Rattle.wire.specs.Returns.{need}
+use Rattle.wire.specs.Wire.{le, number, part, field, splice, same}
+use mathlib.Core.Bool.{Bool, true, false, _&&_}
 use lib.Dec.{eqb}
 use lib.ListN.{length-append, drop-of-length-le}
 
@@ -112,7 +113,7 @@ joined at j a b xs e h =
 
 -- a turn of the loop that compares
 pub same-turn : (s t : List ℕ) (at i : ℕ) → i < length t → at + length t ≤ length s
-    → same (part (at + i) (length t - i) s) (drop i t) ≡ both (eqb (getD s (at + i) 0) (getD t i 0)) (same (part (at + (i + 1)) (length t - (i + 1)) s) (drop (i + 1) t))
+    → same (part (at + i) (length t - i) s) (drop i t) ≡ (eqb (getD s (at + i) 0) (getD t i 0) && same (part (at + (i + 1)) (length t - (i + 1)) s) (drop (i + 1) t))
 unfolding same
 same-turn s t at i less fits =
     ap₂ same (part-turn s at i (length t) less fits) (drop-cons t i 0 less ∙ ap (λ (x : ℕ). getD t i 0 ∷ drop x t) (sym (add-one i)))
@@ -120,3 +121,15 @@ same-turn s t at i less fits =
 pub same-none : (s t : List ℕ) (at k i : ℕ) → k ≡ 0 → length t ≤ i → same (part at k s) (drop i t) ≡ true
 unfolding same
 same-none s t at k i e h = ap₂ same (part-none at k s e) (drop-of-length-le t h)
+
+-- a check that fails gives its number, one that holds gives the rest
+pub need-fails : {t : Bool} (n m : ℕ) → t ≡ false → n ≡ need t n m
+need-fails n m e = sym (ap (λ (b : Bool). need b n m) e)
+
+pub need-holds : {t : Bool} (n m : ℕ) → t ≡ true → m ≡ need t n m
+need-holds n m e = sym (ap (λ (b : Bool). need b n m) e)
+
+-- a chain of checks that gives 0: the first holds, and the rest gives 0
+pub need-zero : (t : Bool) (n m : ℕ) → 0 < n → need t n m ≡ 0 → (t ≡ true) × (m ≡ 0)
+need-zero true n m pos e = (refl, e)
+need-zero false n m pos e = absurd (omega arith)

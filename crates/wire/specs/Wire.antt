@@ -1,7 +1,7 @@
 -- Little-endian numbers in lists of bytes, and a list with a part replaced. Assumes nothing.
 use mathlib.Core.List.{List, [], _∷_, _++_}
 use mathlib.Core.Path.{_≡_}
-use mathlib.Core.Bool.{Bool, true, false}
+use mathlib.Core.Bool.{Bool, true, false, _&&_}
 use Prim.Native.Nat.{ℕ, zero, suc, _+_, _*_, _/_, _%_, _^_, _<_}
 use lib.Dec.{eqb}
 use lib.ListN.{length, take, drop}
@@ -34,14 +34,9 @@ pub record Read (xs : List ℕ) (at k r : ℕ) : Type 0 where
 unfoldable pub splice : ℕ → List ℕ → List ℕ → List ℕ
 splice at bs xs = take at xs ++ bs ++ drop (at + length bs) xs
 
--- whether both hold
-abbrev pub both : Bool → Bool → Bool
-both true b = b
-both false b = false
-
 -- whether two lists are equal
 unfoldable pub same : List ℕ → List ℕ → Bool
 same [] [] = true
 same [] (y ∷ ys) = false
 same (x ∷ xs) [] = false
-same (x ∷ xs) (y ∷ ys) = both (eqb x y) (same xs ys)
+same (x ∷ xs) (y ∷ ys) = eqb x y && same xs ys

@@ -1,7 +1,10 @@
 // Little-endian numbers in byte slices, the copy of a part of one slice into another, and the comparison of a part
-// with a slice: one function over the width each. Every function fixes every byte of a buffer that it is lent.
+// with a slice: one function over the width each. Every function fixes every byte of a buffer that it is lent. Also the small functions on numbers
+// that every layer uses, and the return numbers.
+pub mod returns;
+
 ghost use mathlib.Core.Path.{_≡_};
-ghost use Prim.Native.Nat.{_+_, _≤_, _<_};
+ghost use Prim.Native.Nat.{_+_, _≤_, _<_, min};
 ghost use lib.ListN.{length};
 ghost use Rattle.wire.specs.Wire.{le, Read, part, splice, same};
 
@@ -34,10 +37,17 @@ pub fn get(s: &[u8], at: usize, n: usize) -> u64
 }
 
 // A byte as a wider number, with its bound, so that no caller has to show the bound again.
-fn wide(x: u8) -> u64
+pub fn wide(x: u8) -> u64
     ensures { λ r. ⌜ (r ≡ x) × (r < 256) ⌝ }
 {
     x as u64
+}
+
+// The lesser of two numbers.
+pub fn least(a: usize, b: usize) -> usize
+    ensures { λ r. ⌜ r ≡ min a b ⌝ }
+{
+    if a < b { a } else { b }
 }
 
 // Copies the n bytes of s from index from into d from index at.

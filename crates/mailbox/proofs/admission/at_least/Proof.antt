@@ -1,5 +1,5 @@
 -- `mailbox::admission::at_least` meets its contract. Assumes nothing.
-use Rattle.mailbox.proofs.AdmissionLaws.{need-holds, need-fails}
+use Rattle.wire.proofs.Laws.{need-holds, need-fails}
 use Prim.Native.Nat.{_-_}
 use borrow.Author.Tests.{le-leb, lt-leb}
 use Rattle.mailbox.proofs.admission.at_least.Statement.{statement}

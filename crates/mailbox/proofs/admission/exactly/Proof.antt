@@ -1,5 +1,5 @@
 -- `mailbox::admission::exactly` meets its contract. Assumes nothing.
-use Rattle.mailbox.proofs.AdmissionLaws.{need-holds, need-fails}
+use Rattle.wire.proofs.Laws.{need-holds, need-fails}
 use Prim.Native.Nat.{_-_}
 use borrow.Author.Tests.{eq-eqb, ne-eqb}
 use Rattle.mailbox.proofs.admission.exactly.Statement.{statement}

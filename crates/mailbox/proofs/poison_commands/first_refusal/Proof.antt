@@ -1,5 +1,5 @@
 -- `mailbox::poison_commands::first_refusal` meets its contract. Assumes nothing.
-use Rattle.mailbox.proofs.AdmissionLaws.{need-holds, need-fails}
+use Rattle.wire.proofs.Laws.{need-holds, need-fails}
 use borrow.Author.Tests.{eq-eqb, ne-eqb}
 use Prim.Native.Nat.{_-_}
 use Rattle.mailbox.proofs.poison_commands.first_refusal.Statement.{statement}

@@ -3,7 +3,8 @@ use Prim.Native.Nat.{_/_}
 use Rattle.poison.specs.State.{capacity}
 use Rattle.mailbox.specs.PoisonCommands.{range-code}
 use Rattle.mailbox.proofs.Addresses.{range-ends}
-use Rattle.mailbox.proofs.ListAnswers.{valid-more, get-refusal, get-reply}
+use Rattle.poison.proofs.Laws.{valid-more}
+use Rattle.mailbox.proofs.ListAnswers.{get-refusal, get-reply}
 use mathlib.Core.Path.{_≡_, sym, _∙_}
 use Prim.Native.Nat.{_≤_, _+_, _-_}
 use native.Mathlib.Omega.{arith}
@@ -33,19 +34,25 @@ check-range-requires c κs = search needs
 returns : tie.Need-returns
 returns c = get-refusal _ (c .before .before .before .before .before .before .args .list) _ _ (c .before .before .before .get .ensures .value) _ (c .before .before .get2 .ensures .value) _ (c .before .check-range .ensures) (c .if1 .taken)
 
+overflowed-requires : tie.Need-overflowed-requires
+overflowed-requires c κs = search needs
+
+overflowed-at-requires : tie.Need-overflowed-at-requires
+overflowed-at-requires c κs = search needs
+
 cast-from : tie.Need-cast-from
-cast-from c = let h = ends c in record { fits = omega (arith, h) }
+cast-from c = let h = ends (c .before .before) in record { fits = omega (arith, h) }
 
 cast-put-records : tie.Need-cast-put-records
-cast-put-records c = let h = ends c in record { fits = omega (arith, h) }
+cast-put-records c = let h = ends (c .before .before) in record { fits = omega (arith, h) }
 
 put-records-requires : tie.Need-put-records-requires
 put-records-requires c κs =
-    let s = c .before .before .before .before .before .before .before in
-    (valid-more (s .pre .1) (s .pre .0), ends (c .before), search needs, s .pre .3)
+    let s = c .before .before .before .before .before .before .before .before .before in
+    (valid-more (s .pre .1) (s .pre .0), ends (c .before .before .before), search needs, s .pre .3)
 
-carried-requires : tie.Need-carried-requires
-carried-requires c κs = search needs
+least-requires : tie.Need-least-requires
+least-requires c κs = search needs
 
 put-header-requires : tie.Need-put-header-requires
 put-header-requires c κs = search needs
@@ -61,9 +68,11 @@ same-length c = search needs
 
 returns-2 : tie.Need-returns-2
 returns-2 c =
-    let e = c .before .before .before .before .before .before .before .before .before in
+    let t = c .before .before .before .before .before .before .before .before .before in
+    let e = t .before .before in
     get-reply _ (e .before .before .before .before .before .before .args .list) _ _ (e .before .before .before .get .ensures .value) _ (e .before .before .get2 .ensures .value) _ _ (zero e)
-    (c .before .before .before .before .before .before .before .put-records .ensures) (c .before .before .before .before .carried .ensures) (c .before .before .put-header .ensures)
+    (t .before .overflowed .ensures) (t .overflowed-at .ensures)
+    (c .before .before .before .before .before .before .before .put-records .ensures) (c .before .before .before .before .least .ensures) (c .before .before .put-header .ensures)
     (e .before .before .before .before .before .before .pre .3)
 
 pub get-spec : {M : Type 1} → statement M
@@ -74,10 +83,12 @@ get-spec =
     get-requires-2
     check-range-requires
     returns
+    overflowed-requires
+    overflowed-at-requires
     cast-from
     cast-put-records
     put-records-requires
-    carried-requires
+    least-requires
     put-header-requires
     mul-t21
     add-t22

@@ -3,7 +3,8 @@ use Prim.Native.Nat.{_/_}
 use Rattle.poison.specs.State.{capacity}
 use Rattle.mailbox.specs.PoisonCommands.{line-code}
 use Rattle.mailbox.proofs.Addresses.{line-inside}
-use Rattle.mailbox.proofs.ListAnswers.{valid-more, inject-refusal, inject-success, inject-no-room}
+use Rattle.poison.proofs.Laws.{valid-more}
+use Rattle.mailbox.proofs.ListAnswers.{inject-refusal, inject-success, inject-no-room}
 use mathlib.Core.Path.{_≡_, sym, _∙_}
 use Prim.Native.Nat.{_<_, _-_}
 use native.Mathlib.Omega.{arith}

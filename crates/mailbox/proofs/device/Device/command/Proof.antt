@@ -5,7 +5,7 @@ use borrow.Author.Tests.{ne-eqb, eqb-true, leb-true}
 use Rattle.poison.specs.State.{state-of as poison-of}
 use Rattle.events.specs.Get.{get-code}
 use Rattle.events.specs.Clear.{clear-code}
-use Rattle.events.proofs.Codes.{get-code-zero, clear-code-zero}
+use Rattle.events.proofs.Laws.{get-code-zero, clear-code-zero}
 use Rattle.mailbox.specs.Numbers.{mailbox-size}
 use Rattle.mailbox.specs.State.{ValidDevice, state-of, with-policy, with-clock}
 use Rattle.mailbox.specs.Commands.{commands, admission, fits as known-fits}

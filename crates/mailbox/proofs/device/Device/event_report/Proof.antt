@@ -1,7 +1,7 @@
 -- `mailbox::device::Device::event_report` meets its contract. Assumes nothing.
 use lib.ListN.{length-map}
 use Rattle.events.specs.Report.{report-code}
-use Rattle.events.proofs.Codes.{report-code-zero}
+use Rattle.events.proofs.Laws.{report-code-zero}
 use Rattle.mailbox.proofs.DeviceAnswers.{event-refused, event-taken}
 use mathlib.Core.Path.{_≡_, sym, _∙_}
 use Prim.Native.Nat.{_<_, _-_}

@@ -1,12 +1,11 @@
 -- `PoisonList::put_records` meets its contract: the entries from the first that ends past the first line of the range up to the first
 -- that starts past its last line are those that share a line with it (Neighbours). Assumes nothing.
-use mathlib.Core.Path.{_≡_, refl}
-use Prim.Native.Nat.{_-_, min}
+use mathlib.Core.Path.{refl}
+use Prim.Native.Nat.{_-_}
 use native.Mathlib.Omega.{arith}
 use borrow.Author.Needs.{needs}
 use Rattle.poison.proofs.Views.{Sized, valid-runs}
 use Rattle.poison.proofs.Neighbours.{wrote-none, ordered, writable, wrote}
-use mathlib.Core.Logic.{⊎-elim}
 use Rattle.poison.proofs.list.PoisonList.put_records.Statement.{statement}
 use Rattle.poison.proofs.list.PoisonList.put_records.Tie as tie
 
@@ -41,6 +40,9 @@ sub-number c =
     let q = ordered l sized (s .pre .0) (s .args .from) (s .args .lines) _ _ (c .before .before .before .before .before .before .before .before .if1 .left) (c .before .before .before .before .first-past .ensures) (c .place .ensures) in
     search needs
 
+least-requires : tie.Need-least-requires
+least-requires c κs = search needs
+
 put-neighbours-requires : tie.Need-put-neighbours-requires
 put-neighbours-requires c κs =
     let s = c .before .before .before .before .before .before .before .before .before .before .before .before .before .before .before .before in
@@ -50,8 +52,8 @@ put-neighbours-requires c κs =
     let placed = j .before .place in
     let passed = j .before .before .before .before .before .first-past in
     let some = j .before .before .before .before .before .before .before .before .before .if1 .left in
-    let least : j .if2 .m ≡ min (placed .result - passed .result) (s .args .limit) = ⊎-elim (λ w. omega arith) (λ w. omega arith) (j .if2 .came) in
-    (writable l sized (s .pre .0) (s .args .from) (s .args .lines) _ _ some (passed .ensures) (placed .ensures) (j .if2 .m) (omega arith) (search needs), search needs)
+    let least = j .least .ensures in
+    (writable l sized (s .pre .0) (s .args .from) (s .args .lines) _ _ some (passed .ensures) (placed .ensures) (j .least .result) (omega arith) (search needs), search needs)
 
 same-length : tie.Need-same-length
 same-length c = search needs
@@ -65,8 +67,8 @@ returns-2 c =
     let placed = j .before .place in
     let passed = j .before .before .before .before .before .first-past in
     let some = j .before .before .before .before .before .before .before .before .before .if1 .left in
-    let least : j .if2 .m ≡ min (placed .result - passed .result) (s .args .limit) = ⊎-elim (λ w. omega arith) (λ w. omega arith) (j .if2 .came) in
-    wrote l sized (s .pre .0) (s .args .from) (s .args .lines) _ _ some (passed .ensures) (placed .ensures) (s .args .limit) (s .args .at) _ (j .if2 .m) _ _ refl least (c .before .before .put-neighbours .ensures)
+    let least = j .least .ensures in
+    wrote l sized (s .pre .0) (s .args .from) (s .args .lines) _ _ some (passed .ensures) (placed .ensures) (s .args .limit) (s .args .at) _ (j .least .result) _ _ refl least (c .before .before .put-neighbours .ensures)
 
 pub put-records-spec : {M : Type 1} → statement M
 put-records-spec =
@@ -78,6 +80,7 @@ put-records-spec =
     sub-place
     place-requires
     sub-number
+    least-requires
     put-neighbours-requires
     same-length
     returns-2)

@@ -1,0 +1,14 @@
+-- The laws of the device, each with its sentence in words; their statements and proofs are in other files, and are passed on from here. This is the one file
+-- of proofs/ that a crate above may cite (`tests/layers`): these laws, the definitions of specs/ and the functions' contracts are the layer's stated behaviour.
+-- The other files of proofs/ may change at any time. Assumes nothing.
+
+-- Demand 1 of the definitions: a refused command has an empty reply and leaves the state as it was; a refused event report is not stored, a refused media
+-- report stores and drops 0 lines, and both leave the state as it was; a refused line test answers Unknown with type 0; a refused make is 0002h beside the new
+-- device of one volatile unit.
+pub use Rattle.mailbox.proofs.Demand1.{refusal, event-refusal, media-refusal, line-refusal, make-refusal}
+-- Demand 1 of the code: a refused command has length 0, hands back the very same device and alters no byte of the reply buffer; the device-side calls likewise.
+pub use Rattle.mailbox.proofs.Demand1.{refusal-unaltered, event-unaltered, media-unaltered, line-unknown, make-one-unit}
+-- An address that the checks of a line do not refuse is that of a line of the device; a range that they do not refuse ends on the device.
+pub use Rattle.mailbox.proofs.Addresses.{line-inside, range-ends}
+-- A media report that its checks do not refuse is of a type of three bits and of lines of the device.
+pub use Rattle.mailbox.proofs.DeviceAnswers.{media-zero}

@@ -1,0 +1,35 @@
+-- The return numbers (document 01, "Return numbers"), each named once for every layer, and checks in a stated order. Assumes nothing.
+use Prim.Native.Nat.{ℕ}
+use mathlib.Core.Bool.{Bool, cond}
+
+abbrev pub success : ℕ
+success = 0
+
+abbrev pub invalid-input : ℕ
+invalid-input = 0x2
+
+abbrev pub unsupported : ℕ
+unsupported = 0x3
+
+abbrev pub invalid-handle : ℕ
+invalid-handle = 0xe
+
+abbrev pub invalid-address : ℕ
+invalid-address = 0xf
+
+abbrev pub inject-limit : ℕ
+inject-limit = 0x10
+
+abbrev pub invalid-length : ℕ
+invalid-length = 0x16
+
+abbrev pub invalid-log : ℕ
+invalid-log = 0x17
+
+-- house: reply buffer under 2,048 bytes
+abbrev pub small-buffer : ℕ
+small-buffer = 0x100
+
+-- a check: the refusal where the test fails, else what follows
+abbrev pub need : {A : Type 0} → Bool → A → A → A
+need test refusal rest = cond test rest refusal
