@@ -21,6 +21,7 @@ use Rattle.mailbox.specs.Mailbox.{outcome}
 use Rattle.mailbox.specs.DeviceCalls as Device
 use Rattle.wire.specs.Wire.{splice}
 use Rattle.history.specs.Builds.{all-bytes, Slice, MakeAsked, CommandAsked, EventAsked, MediaAsked, LineAsked, Build, Handed, by-make, by-command, by-event-report, by-media-report, Meets, RefusesAll, RefusesOne, every-make, every-command, every-event-report, every-media-report, every-line-test, reply-of, FixedReply, among, telling, TellsNothing, of-command, of-event-report, of-media-report, of-line-test, of-event-status, of-damage-total, ChangesNothing, changing, LeavesOne, KeepsFirst, of-media, of-events}
+use Rattle.history.proofs.Damage.{and-parts}
 use Rattle.history.proofs.Computing.{rules}
 
 -- ---- arguments
@@ -28,15 +29,10 @@ use Rattle.history.proofs.Computing.{rules}
 abbrev short : List ℕ → Bool
 short xs = all-bytes xs && ltb (length xs) 2049
 
--- two tests that hold together
-pub both-true : (x y : Bool) → (x && y) ≡ true → (x ≡ true) × (y ≡ true)
-both-true true y e = (refl, e)
-both-true false y e = absurd (let z : _≡_ {A = ℕ} 0 1 = cc in omega arith)
-
 -- such a list is a slice
 slice : (xs : List ℕ) → short xs ≡ true → Slice xs
 slice xs e =
-    let p = both-true (all-bytes xs) (ltb (length xs) 2049) e in
+    let p = and-parts (all-bytes xs) (ltb (length xs) 2049) e in
     let n : length xs < 2049 = ltb-true (length xs) 2049 (p .1) in
     record { bytes = p .0; room = omega arith }
 

@@ -37,7 +37,8 @@ one-line : (k : ℕ) → in-run (run k 1) k ≡ true
 unfolding in-run
 one-line k = simp (le-leb k k (omega arith), lt-ltb k (k + 1) (omega arith))
 
-and-parts : (a b : Bool) → (a && b) ≡ true → (a ≡ true) × (b ≡ true)
+-- two tests that hold together
+pub and-parts : (a b : Bool) → (a && b) ≡ true → (a ≡ true) × (b ≡ true)
 and-parts true b e = (refl, e)
 and-parts false b e = absurd (false≢true e)
 

@@ -39,7 +39,7 @@ use Rattle.mailbox.specs.DeviceCalls as Device
 use Rattle.mailbox.specs.declared.device.Device.{Device}
 use Rattle.mailbox.proofs.Laws.{line-inside, media-zero, refusal, event-refusal, media-refusal}
 use Rattle.history.specs.Builds.{Build, Meets, RefusesAll, FixedReply, ChangesNothing, KeepsFirst, of-media}
-use Rattle.history.proofs.Builds.{both-true}
+use Rattle.history.proofs.Damage.{and-parts}
 
 -- ---- a device of the code for a view
 -- a log that stands for a log's view
@@ -314,7 +314,7 @@ make-leaves volatile persistent = go (leb 1 (volatile + persistent) && leb (vola
 
     go : (b : Bool) → (leb 1 (volatile + persistent) && leb (volatile + persistent) most-units) ≡ b → ValidView (Device.make volatile persistent .next)
     go true e =
-        let both = both-true (leb 1 (volatile + persistent)) (leb (volatile + persistent) most-units) e in
+        let both = and-parts (leb 1 (volatile + persistent)) (leb (volatile + persistent) most-units) e in
         rw e (new volatile persistent (leb-true 1 (volatile + persistent) (both .0)) (leb-true (volatile + persistent) most-units (both .1)))
     go false e = rw e (new 1 0 (omega arith) (omega arith))
 
