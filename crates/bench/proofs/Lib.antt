@@ -1,2 +1,3 @@
--- The laws of crate `bench` that more than one proof cites, by subject.
+-- The laws of crate `bench` that more than one proof cites, by subject, and trials of its definitions.
 mod Laws
+mod Trials
