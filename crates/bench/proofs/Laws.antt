@@ -1,13 +1,9 @@
--- Bounds: how many digits a number has, how long a reply and a record's fixed part are. Assumes nothing.
-use mathlib.Core.Path.{_≡_, ap}
-use mathlib.Core.List.{List}
+-- Bounds: how many digits a number has, how long a record's fixed part is. Assumes nothing.
 use Prim.Native.Nat.{ℕ, _≤_, _<_, _-_, _^_}
 use native.Mathlib.Nat.{pow-le-pow-right, zero-lt-suc}
 use native.Mathlib.Decide.{decLe}
 use native.Mathlib.Omega.{arith}
-use lib.ListN.{length, length-append}
 use lib.Dec.{lit≤}
-use Rattle.wire.specs.Wire.{splice}
 use Rattle.bench.specs.declared.records.Mark.{Mark}
 use Rattle.bench.specs.declared.records.Mark.the-variants.{New, Command, Event, Media, Line, Bad, End}
 use Rattle.bench.specs.Records.{least}
@@ -22,11 +18,6 @@ few-digits n k small h = go (decLe k 20)
         let more : 20 < k = omega arith in
         let big : 10 ^ (k - 1) ≤ n = h (omega arith) in
         omega (arith, pow-le-pow-right {n = 10} (zero-lt-suc 9) {i = 20} {j = k - 1} (omega arith))
-
--- what is written over the start of a buffer that keeps its length is no longer than the buffer
-pub reply-fits : (bs before after : List ℕ) → after ≡ splice 0 bs before → length after ≡ length before → length bs ≤ length before
-unfolding splice
-reply-fits bs before after e same = omega (arith, simp length-append at (ap length e))
 
 -- no record's fixed part is longer than a command may be
 pub least-small : (m : Mark) → least m ≤ 2062

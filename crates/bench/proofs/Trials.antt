@@ -1,13 +1,12 @@
 -- The definitions of the text, tried by computation: numbers in decimal, bytes in hexadecimal, lines of document 01's example, records that are read.
 -- Assumes nothing.
-use Prim.Native.Nat.{ℕ}
 use mathlib.Core.Path.{_≡_, refl}
 use mathlib.Core.Bool.{true, false}
 use mathlib.Core.List.{List, [], _∷_, _++_}
 use lib.ListN.{replicate}
-use Rattle.bench.specs.declared.records.Mark.the-variants.{New, Command, Event, Media, Line, Bad, End}
+use Rattle.bench.specs.declared.records.Mark.the-variants.{New, Command, Media, Line, Bad, End}
 use Rattle.bench.specs.Text.{numeral, decimal, hex}
-use Rattle.bench.specs.Lines.{command-line, event-line, pair-line, bad-line, new-line, unless-refused}
+use Rattle.bench.specs.Lines.{command-line, event-line, pair-line, bad-line, unless-refused}
 use Rattle.bench.specs.Records.{Reading, letters, mark-of, whole, read-command, read-marked, read-record}
 use Rattle.wire.specs.Wire.{field, number, part, same}
 

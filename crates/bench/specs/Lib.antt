@@ -4,4 +4,4 @@ pub mod Stream
 pub mod Records
 pub mod Lines
 pub mod Calls
-pub mod Serve
+pub mod Contracts

@@ -3,9 +3,9 @@
 use libc::STDIN_FILENO;
 use libc::STDOUT_FILENO;
 ghost use mathlib.Core.Path.{_≡_};
-ghost use Prim.Native.Nat.{_+_, _≤_};
+ghost use Prim.Native.Nat.{_+_, _^_, _≤_, _<_};
 ghost use lib.ListN.{length};
-ghost use Rattle.bench.specs.Stream.{Fits};
+ghost use Rattle.bench.specs.Stream.{Fits, Past};
 
 // The bytes at..end of the input buffer are not used yet; `at` lies `offset` bytes into the input; the first `used` bytes of the output buffer
 // are not written yet.
@@ -72,6 +72,19 @@ fn read_until(input: &mut [u8], end: usize, n: usize) -> usize
 }
 
 impl Stream {
+    // The stream past a record of so many bytes.
+    pub(crate) fn past(self, size: usize) -> Stream
+        requires { ⌜ (self .at + size ≤ 65536) × (self .offset + size < 2 ^ 64) ⌝ }
+        ensures { λ r. ⌜ Past self size r ⌝ }
+    {
+        Stream {
+            at: self.at + size,
+            end: self.end,
+            offset: self.offset + size as u64,
+            used: self.used,
+        }
+    }
+
     // The stream with n bytes or more not used, or with all that the input has left.
     pub(crate) fn want(self, input: &mut [u8], out: &[u8], n: usize) -> Stream
         requires { ⌜ Fits self × (n ≤ 65536) × (length (now input) ≡ 65536) × (length (now out) ≡ 65536) ⌝ }

@@ -1,7 +1,8 @@
--- `bench::output::begin_line` is safe and ends: each store keeps the buffer's length. Assumes nothing.
+-- `bench::output::begin_line` meets its contract: the two letters, then the number after them. Assumes nothing.
 use native.Mathlib.Omega.{arith}
 use borrow.Author.Needs.{needs}
 use lib.ListN.{length-set}
+use Rattle.bench.proofs.Printing.{puts-then, puts-two, length-column}
 use Rattle.bench.proofs.output.begin_line.Statement.{statement}
 use Rattle.bench.proofs.output.begin_line.Tie as tie
 
@@ -24,7 +25,9 @@ same-length : tie.Need-same-length
 same-length c = simp length-set at (c .before .before .put-number .kept .0)
 
 returns : tie.Need-returns
-returns c = search needs
+returns c =
+    let a = c .before .before .before .before .before .args in
+    puts-then (puts-two (a .at) (a .first) (a .second) _ (search needs)) (c .before .before .put-number .ensures) (omega (arith, length-column (a .code)))
 
 pub begin-line-spec : {M : Type 1} → statement M
 begin-line-spec =

@@ -1,7 +1,9 @@
--- `bench::output::put_bad` is safe and ends: each store keeps the buffer's length. Assumes nothing.
+-- `bench::output::put_bad` meets its contract: the three letters, the number after them, the line's end. Assumes nothing.
 use native.Mathlib.Omega.{arith}
 use borrow.Author.Needs.{needs}
 use lib.ListN.{length-set}
+use Rattle.bench.specs.Lines.{bad-line}
+use Rattle.bench.proofs.Printing.{puts-then, puts-three, length-column}
 use Rattle.bench.proofs.output.put_bad.Statement.{statement}
 use Rattle.bench.proofs.output.put_bad.Tie as tie
 
@@ -27,13 +29,23 @@ put-number-requires : tie.Need-put-number-requires
 put-number-requires c κs = simp length-set (omega arith)
 
 end-line-requires : tie.Need-end-line-requires
-end-line-requires c κs = omega (arith, simp length-set at (c .before .before .before .put-number .kept .0))
+end-line-requires c κs =
+    let put = c .before .before .before .put-number in
+    omega (arith, put .ensures .end, length-column (c .before .before .before .before .before .before .args .offset), simp length-set at (put .kept .0))
 
 same-length : tie.Need-same-length
 same-length c = omega (arith, simp length-set at (c .before .before .before .before .before .before .put-number .kept .0))
 
 returns : tie.Need-returns
-returns c = search needs
+unfolding bad-line
+returns c =
+    let a = c .before .before .before .before .before .before .before .before .before .args in
+    let put = c .before .before .before .before .before .before .put-number in
+    let room = length-column (a .offset) in
+    puts-then
+    (puts-then (puts-three (a .at) 66 65 68 _ (search needs)) (put .ensures) (omega (arith, room)))
+    (c .before .before .end-line .ensures)
+    (omega (arith, put .ensures .end, room))
 
 pub put-bad-spec : {M : Type 1} → statement M
 put-bad-spec =

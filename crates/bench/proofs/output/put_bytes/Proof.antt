@@ -1,15 +1,22 @@
--- `bench::output::put_bytes` is safe and ends. The invariant: i is at most n, and the buffer keeps its length. The measure is what is left of n.
--- Assumes nothing.
+-- `bench::output::put_bytes` meets its contract. The invariant: the digits that are left, stored over what the buffer is now, give what all of them
+-- stored over the buffer at the loop's start give. The measure is what is left of n. Assumes nothing.
 use mathlib.Core.Path.{_≡_}
-use Prim.Native.Nat.{_≤_, _-_}
+use Prim.Native.Nat.{_≤_, _+_, _-_, _*_}
 use native.Mathlib.Omega.{arith}
 use borrow.Author.Needs.{needs}
 use lib.ListN.{length, length-set}
+use lib.Seq.{sets}
+use native.Mathlib.Nat.{add-zero, mul-zero, sub-zero}
+use Rattle.wire.specs.Wire.{part}
+use Rattle.bench.specs.Text.{hex}
+use Rattle.bench.proofs.Printing.{hex-turn, puts-hex}
 use Rattle.bench.proofs.output.put_bytes.Statement.{statement}
 use Rattle.bench.proofs.output.put_bytes.Tie as tie
 
 abbrev Inv-loop : tie.InvT-loop
-Inv-loop out₀ at bytes n i₀ out i = (i ≤ n) × (length out ≡ length out₀)
+Inv-loop out₀ at bytes n i₀ out i =
+    (i ≤ n) × (length out ≡ length out₀)
+    × (sets out (at + 1 + 2 * i) (hex (part i (n - i) bytes)) ≡ sets out₀ (at + 1) (hex (part 0 n bytes)))
 
 abbrev μ-loop : tie.MeasureT-loop
 μ-loop out₀ at bytes n i₀ out i = n - i
@@ -18,7 +25,7 @@ slice-write-out : tie.Need-slice-write-out Inv-loop μ-loop
 slice-write-out c = search needs
 
 loop-holds : tie.Need-loop-holds Inv-loop μ-loop
-loop-holds c = search needs
+loop-holds c = (search needs, search needs, simp (add-zero, mul-zero, sub-zero))
 
 shared-slice-read-b : tie.Need-shared-slice-read-b Inv-loop μ-loop
 shared-slice-read-b c = search needs
@@ -54,7 +61,11 @@ loop-less : tie.Need-loop-less Inv-loop μ-loop
 loop-less c = search needs
 
 loop-again : tie.Need-loop-again Inv-loop μ-loop
-loop-again c = search needs
+loop-again c =
+    let l = c .before .before .before .before in
+    let a = l .before .before .before .args in
+    let again = hex-turn _ _ (a .bytes .now) (a .at) (l .loop .i) (a .n) _ _ (search needs) (search needs) (c .before .digit .ensures) (c .digit2 .ensures) (l .loop .inv .2) in
+    (search needs, search needs, again)
 
 add-result : tie.Need-add-result Inv-loop μ-loop
 add-result c = search needs
@@ -69,7 +80,9 @@ same-length : tie.Need-same-length Inv-loop μ-loop
 same-length c = simp length-set at (c .before .loop .inv .1)
 
 returns : tie.Need-returns Inv-loop μ-loop
-returns c = search needs
+returns c =
+    let a = c .before .before .before .before .args in
+    puts-hex _ _ (a .bytes .now) (a .at) (a .n) (c .before .loop .i) (search needs) (search needs) (search needs) (search needs) (c .before .loop .inv .2)
 
 pub put-bytes-spec : {M : Type 1} → statement M
 put-bytes-spec =

@@ -1,7 +1,9 @@
--- `bench::output::put_number` is safe and ends: a 64-bit number has at most 20 digits. Assumes nothing.
+-- `bench::output::put_number` meets its contract: the digits that `io::decimal` makes are the number's, and a 64-bit number has at most 20 of them.
+-- Assumes nothing.
 use native.Mathlib.Omega.{arith}
 use borrow.Author.Needs.{needs}
 use Rattle.bench.proofs.Laws.{few-digits}
+use Rattle.bench.proofs.Printing.{puts-number}
 use lib.ListN.{length-set}
 use Rattle.bench.proofs.output.put_number.Statement.{statement}
 use Rattle.bench.proofs.output.put_number.Tie as tie
@@ -34,7 +36,11 @@ same-length : tie.Need-same-length
 same-length c = simp length-set at (c .before .before .copy .kept .1 .1 .1 .0)
 
 returns : tie.Need-returns
-returns c = let few = few-digits (c .before .before .before .before .before .before .before .before .args .n) (c .before .before .before .before .before .decimal .result) (search needs) (c .before .before .before .before .before .decimal .ensures .1 .0 .2) in omega arith
+returns c =
+    let s = c .before .before .before .before .before .before .before .before in
+    let made = c .before .before .before .before .before .decimal in
+    let few = few-digits (s .args .n) (made .result) (search needs) (made .ensures .1 .0 .2) in
+    puts-number _ _ _ _ _ _ (s .pre) few (made .ensures .1 .0) (made .ensures .1 .1) (c .before .before .copy .ensures)
 
 pub put-number-spec : {M : Type 1} → statement M
 put-number-spec =

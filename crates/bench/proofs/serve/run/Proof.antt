@@ -7,6 +7,9 @@ use Rattle.bench.proofs.serve.run.Tie as tie
 next-requires : tie.Need-next-requires
 next-requires c κs = search needs
 
+enum-told : tie.Need-enum-told
+enum-told c = search needs
+
 stop-requires : tie.Need-stop-requires
 stop-requires c κs = search needs
 
@@ -17,10 +20,10 @@ same-length-2 : tie.Need-same-length-2
 same-length-2 c = search needs
 
 returns : tie.Need-returns
-returns c = search needs
+returns c = omega (arith, c .before .before .stop .ensures .room, c .before .before .before .before .before .before .before .before .before .before .before .before .before .before .pre .1)
 
-add-to : tie.Need-add-to
-add-to c = search needs
+past-requires : tie.Need-past-requires
+past-requires c κs = search needs
 
 sub-begin : tie.Need-sub-begin
 sub-begin c = search needs
@@ -32,7 +35,10 @@ part-begin-end : tie.Need-part-begin-end
 part-begin-end c = search needs
 
 begin-requires : tie.Need-begin-requires
-begin-requires c κs = search needs
+begin-requires c κs =
+    let found = c .before .before .before .before .before .before .before .before .before .next in
+    let enough = rw (c .before .before .before .before .enum-told .given .1) at (found .ensures .enough) in
+    (search needs, omega (arith, c .before .before .before .before .before .before .before .before .before .before .before .before .before .before .before .pre .1))
 
 same-length-3 : tie.Need-same-length-3
 same-length-3 c = search needs
@@ -41,22 +47,27 @@ same-length-4 : tie.Need-same-length-4
 same-length-4 c = search needs
 
 returns-2 : tie.Need-returns-2
-returns-2 c = search needs
+returns-2 c = omega (arith, c .before .before .before .before .begin .ensures .line .room, c .before .before .before .before .before .before .before .before .before .before .before .before .before .before .before .before .before .before .before .before .pre .1)
 
 serve-requires : tie.Need-serve-requires
 serve-requires c κs =
     let begun = c .before .before .before .before .before .before .before .before .begin in
-    let found = c .before .before .before .before .before .before .before .before .before .before .before .before .before .before .before .before .next in
-    let given = c .before .before .before .before .before .before .before .before .before .before .before .before .before .before .before .before .before .before .before .before .before .before .pre in (
+    let p = c .before .before .before .before .before .before .before .before .before .before .before .before .past .ensures in
+    let found = c .before .before .before .before .before .before .before .before .before .before .before .before .before .before .before .before .before .before .next in
+    let given = c .before .before .before .before .before .before .before .before .before .before .before .before .before .before .before .before .before .before .before .before .before .before .before .before .pre in (
       begun .ensures .valid,
-      record { order = found .ensures .inside; input = found .ensures .fits .input; output = begun .ensures .room },
+      record {
+        order = omega (arith, p .at, p .end, found .ensures .inside);
+        input = omega (arith, p .end, found .ensures .fits .input);
+        output = omega (arith, begun .ensures .line .room, given .1);
+      },
       omega (arith, found .kept, given .0),
       omega (arith, begun .kept, given .1),
-      omega (arith, given .2),
+      given .2,
     )
 
 same-length-5 : tie.Need-same-length-5
-same-length-5 c = search needs
+same-length-5 c = omega (arith, c .before .before .before .before .before .before .serve .kept, c .before .before .before .before .before .before .before .before .before .before .before .before .before .before .before .before .before .before .before .before .before .before .before .before .before .next .kept)
 
 same-length-6 : tie.Need-same-length-6
 same-length-6 c = search needs
@@ -72,11 +83,12 @@ run-spec =
     tie.close
     (tie.spec
     next-requires
+    enum-told
     stop-requires
     same-length
     same-length-2
     returns
-    add-to
+    past-requires
     sub-begin
     part-begin-start
     part-begin-end

@@ -1,12 +1,12 @@
--- `bench::serve::serve` is safe and ends. The invariant: the three buffers keep their lengths, the device is valid, and the stream's places lie in
--- the buffers. The measure is what is left of the offsets. In each arm the record has the bytes that its mark says. Assumes nothing.
+-- `bench::serve::serve` is safe and ends, and calls each record's function with what it asks. The invariant: the three buffers keep their lengths, the
+-- device is valid, and the stream's places lie in the buffers. The measure is what is left of the offsets. Assumes nothing.
 use mathlib.Core.Path.{_≡_}
 use Prim.Native.Nat.{_-_}
 use native.Mathlib.Omega.{arith}
 use borrow.Author.Needs.{needs}
-use lib.ListN.{length}
 use Rattle.mailbox.specs.State.{ValidDevice}
 use Rattle.bench.specs.Stream.{Fits}
+use lib.ListN.{length}
 use Rattle.bench.proofs.serve.serve.Statement.{statement}
 use Rattle.bench.proofs.serve.serve.Tie as tie
 
@@ -26,26 +26,8 @@ next-requires c κs = search needs
 make-room-requires : tie.Need-make-room-requires Inv-loop μ-loop
 make-room-requires c κs = search needs
 
-stop-requires : tie.Need-stop-requires Inv-loop μ-loop
-stop-requires c κs = search needs
-
-same-length : tie.Need-same-length Inv-loop μ-loop
-same-length c = search needs
-
-same-length-2 : tie.Need-same-length-2 Inv-loop μ-loop
-same-length-2 c = search needs
-
-same-length-3 : tie.Need-same-length-3 Inv-loop μ-loop
-same-length-3 c = search needs
-
-returns : tie.Need-returns Inv-loop μ-loop
-returns c = search needs
-
-add-to : tie.Need-add-to Inv-loop μ-loop
-add-to c = search needs
-
-add-offset : tie.Need-add-offset Inv-loop μ-loop
-add-offset c = search needs
+past-requires : tie.Need-past-requires Inv-loop μ-loop
+past-requires c κs = search needs
 
 enum-told : tie.Need-enum-told Inv-loop μ-loop
 enum-told c = search needs
@@ -61,18 +43,11 @@ part-command-end c = search needs
 
 command-requires : tie.Need-command-requires Inv-loop μ-loop
 command-requires c κs =
-    let k = c .before .before .before .before .before in
-    let l = k .before .before .before .before .before .before .before .before .before .before .before .before .loop in
-    let found = k .before .before .before .before .before .before .before .next in
-    let enough = rw (c .before .before .before .enum-told .given .1) at (found .ensures .enough) in
-    (l .inv .3, search needs, omega (arith, l .inv .2))
-
-put-command-requires : tie.Need-put-command-requires Inv-loop μ-loop
-put-command-requires c κs =
-    let k = c .before .before .before .before .before .before .before .before .before .before .before in
-    let l = k .before .before .before .before .before .before .before .before .before .before .before .before .loop in
-    let answered = c .before .before .before .before .before .command in
-    (k .before .before .make-room .ensures, omega (arith, l .inv .1), omega (arith, answered .ensures .fits, answered .kept, l .inv .2), omega (arith, answered .kept, l .inv .2))
+    let k = c .before .before .before .before .before .before in
+    let l = k .before .before .before .before .before .before .before .before .before .before .before .loop in
+    let found = k .before .before .before .before .before .before .next in
+    let enough = rw (c .before .before .before .before .enum-told .given .1) at (found .ensures .enough) in
+    (record { valid = l .inv .3; enough = search needs; room = omega (arith, k .before .make-room .ensures, l .inv .1) }, l .inv .2)
 
 enum-told-2 : tie.Need-enum-told-2 Inv-loop μ-loop
 enum-told-2 c = search needs
@@ -88,17 +63,11 @@ part-event-end c = search needs
 
 event-requires : tie.Need-event-requires Inv-loop μ-loop
 event-requires c κs =
-    let k = c .before .before .before .before in
-    let l = k .before .before .before .before .before .before .before .before .before .before .before .before .loop in
-    let found = k .before .before .before .before .before .before .before .next in
-    let enough = rw (c .before .before .enum-told2 .given .1) at (found .ensures .enough) in
-    (l .inv .3, search needs)
-
-put-event-requires : tie.Need-put-event-requires Inv-loop μ-loop
-put-event-requires c κs =
-    let k = c .before .before .before .before .before .before .before in
-    let l = k .before .before .before .before .before .before .before .before .before .before .before .before .loop in
-    (k .before .before .make-room .ensures, omega (arith, l .inv .1))
+    let k = c .before .before .before .before .before in
+    let l = k .before .before .before .before .before .before .before .before .before .before .before .loop in
+    let found = k .before .before .before .before .before .before .next in
+    let enough = rw (c .before .before .before .enum-told2 .given .1) at (found .ensures .enough) in
+    record { valid = l .inv .3; enough = search needs; room = omega (arith, k .before .make-room .ensures, l .inv .1) }
 
 enum-told-3 : tie.Need-enum-told-3 Inv-loop μ-loop
 enum-told-3 c = search needs
@@ -114,23 +83,11 @@ part-media-end c = search needs
 
 media-requires : tie.Need-media-requires Inv-loop μ-loop
 media-requires c κs =
-    let k = c .before .before .before .before in
-    let l = k .before .before .before .before .before .before .before .before .before .before .before .before .loop in
-    let found = k .before .before .before .before .before .before .before .next in
-    let enough = rw (c .before .before .enum-told3 .given .1) at (found .ensures .enough) in
-    (l .inv .3, search needs)
-
-cast-put-pair : tie.Need-cast-put-pair Inv-loop μ-loop
-cast-put-pair c = search needs
-
-cast-put-pair-2 : tie.Need-cast-put-pair-2 Inv-loop μ-loop
-cast-put-pair-2 c = search needs
-
-put-pair-requires : tie.Need-put-pair-requires Inv-loop μ-loop
-put-pair-requires c κs =
-    let k = c .before .before .before .before .before .before .before .before .before in
-    let l = k .before .before .before .before .before .before .before .before .before .before .before .before .loop in
-    (k .before .before .make-room .ensures, omega (arith, l .inv .1))
+    let k = c .before .before .before .before .before in
+    let l = k .before .before .before .before .before .before .before .before .before .before .before .loop in
+    let found = k .before .before .before .before .before .before .next in
+    let enough = rw (c .before .before .before .enum-told3 .given .1) at (found .ensures .enough) in
+    record { valid = l .inv .3; enough = search needs; room = omega (arith, k .before .make-room .ensures, l .inv .1) }
 
 enum-told-4 : tie.Need-enum-told-4 Inv-loop μ-loop
 enum-told-4 c = search needs
@@ -147,95 +104,120 @@ part-line-end c = search needs
 line-requires : tie.Need-line-requires Inv-loop μ-loop
 line-requires c κs =
     let k = c .before .before .before .before .before in
-    let l = k .before .before .before .before .before .before .before .before .before .before .before .before .loop in
-    let found = k .before .before .before .before .before .before .before .next in
+    let l = k .before .before .before .before .before .before .before .before .before .before .before .loop in
+    let found = k .before .before .before .before .before .before .next in
     let enough = rw (c .before .before .before .enum-told4 .given .1) at (found .ensures .enough) in
-    (l .inv .3, search needs, k .before .before .make-room .ensures, omega (arith, l .inv .1))
+    record { valid = l .inv .3; enough = search needs; room = omega (arith, k .before .make-room .ensures, l .inv .1) }
+
+stop-requires : tie.Need-stop-requires Inv-loop μ-loop
+stop-requires c κs = search needs
+
+same-length : tie.Need-same-length Inv-loop μ-loop
+same-length c = search needs
+
+same-length-2 : tie.Need-same-length-2 Inv-loop μ-loop
+same-length-2 c = search needs
+
+same-length-3 : tie.Need-same-length-3 Inv-loop μ-loop
+same-length-3 c = search needs
+
+returns : tie.Need-returns Inv-loop μ-loop
+returns c = omega (arith, c .before .before .stop .ensures .room, c .before .before .before .before .before .before .before .before .before .before .before .before .before .before .before .before .loop .inv .1)
 
 loop-less : tie.Need-loop-less Inv-loop μ-loop
 loop-less c =
-    let k = c .before .before .before .before .before .before .before .before .before .before .before .before .before .before in
-    omega (arith, k .before .if2 .left, k .before .before .before .before .before .before .before .next .ensures .place, k .before .before .before .before .before .before .before .before .before .before .if1 .taken)
+    let k = c .before .before .before .before .before .before .before .before .before .before .before .before in
+    let found = k .before .before .before .before .before .before .next in
+    let enough = rw (c .before .before .before .before .before .before .before .before .before .before .enum-told .given .1) at (found .ensures .enough) in
+    omega (arith, enough, k .past .ensures .offset, found .ensures .place, k .before .before .before .before .before .before .before .before .before .if1 .taken)
 
 loop-again : tie.Need-loop-again Inv-loop μ-loop
 loop-again c =
-    let k = c .before .before .before .before .before .before .before .before .before .before .before .before .before .before in
-    let l = k .before .before .before .before .before .before .before .before .before .before .before .before .loop in
-    let found = k .before .before .before .before .before .before .before .next in
-    let answered = c .before .before .before .before .before .before .before .before .command in (
+    let k = c .before .before .before .before .before .before .before .before .before .before .before .before in
+    let l = k .before .before .before .before .before .before .before .before .before .before .before .loop in
+    let found = k .before .before .before .before .before .before .next in
+    let p = k .past .ensures in (
       omega (arith, found .kept, l .inv .0),
-      omega (arith, c .before .before .put-command .kept, l .inv .1),
-      omega (arith, answered .kept, l .inv .2),
-      answered .ensures .valid,
-      record { order = found .ensures .inside; input = found .ensures .fits .input; output = c .before .before .put-command .ensures },
+      omega (arith, c .before .before .before .before .before .command .kept .1 .1 .1 .0, l .inv .1),
+      omega (arith, c .before .before .before .before .before .command .kept .1 .1 .0, l .inv .2),
+      c .before .before .before .before .before .command .ensures .valid,
+      record {
+        order = omega (arith, p .at, p .end, found .ensures .inside);
+        input = omega (arith, p .end, found .ensures .fits .input);
+        output = omega (arith, c .before .before .before .before .before .command .ensures .line .room, l .inv .1);
+      },
     )
 
 loop-less-2 : tie.Need-loop-less-2 Inv-loop μ-loop
 loop-less-2 c =
-    let k = c .before .before .before .before .before .before .before .before .before .before in
-    omega (arith, k .before .if2 .left, k .before .before .before .before .before .before .before .next .ensures .place, k .before .before .before .before .before .before .before .before .before .before .if1 .taken)
+    let k = c .before .before .before .before .before .before .before .before .before in
+    let found = k .before .before .before .before .before .before .next in
+    let enough = rw (c .before .before .before .before .before .before .before .enum-told2 .given .1) at (found .ensures .enough) in
+    omega (arith, enough, k .past .ensures .offset, found .ensures .place, k .before .before .before .before .before .before .before .before .before .if1 .taken)
 
 loop-again-2 : tie.Need-loop-again-2 Inv-loop μ-loop
 loop-again-2 c =
-    let k = c .before .before .before .before .before .before .before .before .before .before in
-    let l = k .before .before .before .before .before .before .before .before .before .before .before .before .loop in
-    let found = k .before .before .before .before .before .before .before .next in (
+    let k = c .before .before .before .before .before .before .before .before .before in
+    let l = k .before .before .before .before .before .before .before .before .before .before .before .loop in
+    let found = k .before .before .before .before .before .before .next in
+    let p = k .past .ensures in (
       omega (arith, found .kept, l .inv .0),
-      omega (arith, c .before .before .put-event .kept, l .inv .1),
-      omega (arith, l .inv .2),
-      c .before .before .before .before .before .event .ensures,
-      record { order = found .ensures .inside; input = found .ensures .fits .input; output = c .before .before .put-event .ensures },
+      omega (arith, c .before .before .before .event .kept .1 .1 .0, l .inv .1),
+      l .inv .2,
+      c .before .before .before .event .ensures .valid,
+      record {
+        order = omega (arith, p .at, p .end, found .ensures .inside);
+        input = omega (arith, p .end, found .ensures .fits .input);
+        output = omega (arith, c .before .before .before .event .ensures .line .room, l .inv .1);
+      },
     )
 
 loop-less-3 : tie.Need-loop-less-3 Inv-loop μ-loop
 loop-less-3 c =
-    let k = c .before .before .before .before .before .before .before .before .before .before .before .before in
-    omega (arith, k .before .if2 .left, k .before .before .before .before .before .before .before .next .ensures .place, k .before .before .before .before .before .before .before .before .before .before .if1 .taken)
+    let k = c .before .before .before .before .before .before .before .before .before in
+    let found = k .before .before .before .before .before .before .next in
+    let enough = rw (c .before .before .before .before .before .before .before .enum-told3 .given .1) at (found .ensures .enough) in
+    omega (arith, enough, k .past .ensures .offset, found .ensures .place, k .before .before .before .before .before .before .before .before .before .if1 .taken)
 
 loop-again-3 : tie.Need-loop-again-3 Inv-loop μ-loop
 loop-again-3 c =
-    let k = c .before .before .before .before .before .before .before .before .before .before .before .before in
-    let l = k .before .before .before .before .before .before .before .before .before .before .before .before .loop in
-    let found = k .before .before .before .before .before .before .before .next in (
+    let k = c .before .before .before .before .before .before .before .before .before in
+    let l = k .before .before .before .before .before .before .before .before .before .before .before .loop in
+    let found = k .before .before .before .before .before .before .next in
+    let p = k .past .ensures in (
       omega (arith, found .kept, l .inv .0),
-      omega (arith, c .before .before .put-pair .kept, l .inv .1),
-      omega (arith, l .inv .2),
-      c .before .before .before .before .before .before .before .media .ensures,
-      record { order = found .ensures .inside; input = found .ensures .fits .input; output = c .before .before .put-pair .ensures },
+      omega (arith, c .before .before .before .media .kept .1 .1 .0, l .inv .1),
+      l .inv .2,
+      c .before .before .before .media .ensures .valid,
+      record {
+        order = omega (arith, p .at, p .end, found .ensures .inside);
+        input = omega (arith, p .end, found .ensures .fits .input);
+        output = omega (arith, c .before .before .before .media .ensures .line .room, l .inv .1);
+      },
     )
 
 loop-less-4 : tie.Need-loop-less-4 Inv-loop μ-loop
 loop-less-4 c =
     let k = c .before .before .before .before .before .before .before .before in
-    omega (arith, k .before .if2 .left, k .before .before .before .before .before .before .before .next .ensures .place, k .before .before .before .before .before .before .before .before .before .before .if1 .taken)
+    let found = k .before .before .before .before .before .before .next in
+    let enough = rw (c .before .before .before .before .before .before .enum-told4 .given .1) at (found .ensures .enough) in
+    omega (arith, enough, k .past .ensures .offset, found .ensures .place, k .before .before .before .before .before .before .before .before .before .if1 .taken)
 
 loop-again-4 : tie.Need-loop-again-4 Inv-loop μ-loop
 loop-again-4 c =
     let k = c .before .before .before .before .before .before .before .before in
-    let l = k .before .before .before .before .before .before .before .before .before .before .before .before .loop in
-    let found = k .before .before .before .before .before .before .before .next in (
+    let l = k .before .before .before .before .before .before .before .before .before .before .before .loop in
+    let found = k .before .before .before .before .before .before .next in
+    let p = k .past .ensures in (
       omega (arith, found .kept, l .inv .0),
-      omega (arith, c .before .before .line .kept, l .inv .1),
-      omega (arith, l .inv .2),
+      omega (arith, c .before .before .line .kept .1 .1 .0, l .inv .1),
+      l .inv .2,
       l .inv .3,
-      record { order = found .ensures .inside; input = found .ensures .fits .input; output = c .before .before .line .ensures },
-    )
-
-loop-less-5 : tie.Need-loop-less-5 Inv-loop μ-loop
-loop-less-5 c =
-    let k = c .before in
-    omega (arith, k .before .if2 .left, k .before .before .before .before .before .before .before .next .ensures .place, k .before .before .before .before .before .before .before .before .before .before .if1 .taken)
-
-loop-again-5 : tie.Need-loop-again-5 Inv-loop μ-loop
-loop-again-5 c =
-    let k = c .before in
-    let l = k .before .before .before .before .before .before .before .before .before .before .before .before .loop in
-    let found = k .before .before .before .before .before .before .before .next in (
-      omega (arith, found .kept, l .inv .0),
-      omega (arith, l .inv .1),
-      omega (arith, l .inv .2),
-      l .inv .3,
-      record { order = found .ensures .inside; input = found .ensures .fits .input; output = omega (arith, k .before .before .make-room .ensures) },
+      record {
+        order = omega (arith, p .at, p .end, found .ensures .inside);
+        input = omega (arith, p .end, found .ensures .fits .input);
+        output = omega (arith, c .before .before .line .ensures .room, l .inv .1);
+      },
     )
 
 same-length-4 : tie.Need-same-length-4 Inv-loop μ-loop
@@ -259,38 +241,32 @@ serve-spec =
     loop-holds
     next-requires
     make-room-requires
-    stop-requires
-    same-length
-    same-length-2
-    same-length-3
-    returns
-    add-to
-    add-offset
+    past-requires
     enum-told
     sub-command
     part-command-start
     part-command-end
     command-requires
-    put-command-requires
     enum-told-2
     sub-event
     part-event-start
     part-event-end
     event-requires
-    put-event-requires
     enum-told-3
     sub-media
     part-media-start
     part-media-end
     media-requires
-    cast-put-pair
-    cast-put-pair-2
-    put-pair-requires
     enum-told-4
     sub-line
     part-line-start
     part-line-end
     line-requires
+    stop-requires
+    same-length
+    same-length-2
+    same-length-3
+    returns
     loop-less
     loop-again
     loop-less-2
@@ -299,8 +275,6 @@ serve-spec =
     loop-again-3
     loop-less-4
     loop-again-4
-    loop-less-5
-    loop-again-5
     same-length-4
     same-length-5
     same-length-6

@@ -1,0 +1,43 @@
+-- What the functions of this crate ensure: records of equations between their answers, the buffers that they are lent and the definitions.
+-- Assumes nothing.
+use Prim.Native.Nat.{ℕ, _+_, _≤_}
+use mathlib.Core.Path.{_≡_}
+use mathlib.Core.List.{List}
+use lib.ListN.{length}
+use Rattle.wire.specs.Wire.{splice}
+use Rattle.mailbox.specs.State.{ValidDevice, state-of}
+use Rattle.mailbox.specs.declared.device.Device.{Device}
+use Rattle.bench.specs.declared.records.Mark.{Mark}
+use Rattle.bench.specs.declared.serve.Served.{Served}
+use Rattle.bench.specs.declared.serve.Begun.{Begun}
+use Rattle.bench.specs.Records.{least}
+use Rattle.bench.specs.Calls.{Printed}
+
+-- text put into the output buffer from index at on: every byte of the buffer, and the place after the text
+pub record Puts (at : ℕ) (text before after : List ℕ) (r : ℕ) : Type 0 where
+  pub bytes : after ≡ splice at text before
+  pub end : r ≡ at + length text
+
+-- a whole line put: besides, it lies in the buffer
+pub record PutsLine (at : ℕ) (text before after : List ℕ) (r : ℕ) : Type 0 where
+  pub puts : Puts at text before after r
+  pub room : r ≤ length before
+
+-- what a record's function is given: a valid device, the bytes of a record of that mark, and room for a line
+pub record Ready (mark : Mark) (d : Device) (r : List ℕ) (used : ℕ) (out : List ℕ) : Type 0 where
+  pub valid : ValidDevice d
+  pub enough : least mark ≤ length r
+  pub room : used + 4200 ≤ length out
+
+-- a record served: its line put into the output buffer, and the device that follows
+pub record Serves (o : Printed) (used : ℕ) (r : Served) (before after : List ℕ) : Type 0 where
+  pub line : PutsLine used (o .line) before after (r .used)
+  pub next : state-of (r .device) ≡ o .next
+  pub valid : ValidDevice (r .device)
+
+-- the first record served
+pub record Begins (o : Printed) (code : ℕ) (r : Begun) (before after : List ℕ) : Type 0 where
+  pub number : r .code ≡ code
+  pub line : PutsLine 0 (o .line) before after (r .used)
+  pub next : state-of (r .device) ≡ o .next
+  pub valid : ValidDevice (r .device)
