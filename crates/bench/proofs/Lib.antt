@@ -4,4 +4,6 @@ mod Printing
 mod LineLaws
 mod CallLaws
 mod MarkLaws
+mod StreamLaws
+mod RecordLaws
 mod Trials

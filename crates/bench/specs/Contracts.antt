@@ -10,7 +10,10 @@ use Rattle.mailbox.specs.declared.device.Device.{Device}
 use Rattle.bench.specs.declared.records.Mark.{Mark}
 use Rattle.bench.specs.declared.serve.Served.{Served}
 use Rattle.bench.specs.declared.serve.Begun.{Begun}
-use Rattle.bench.specs.Records.{least}
+use Rattle.bench.specs.declared.stream.Stream.{Stream}
+use Rattle.bench.specs.declared.records.Found.{Found}
+use Rattle.bench.specs.Stream.{count-left, left, Continues}
+use Rattle.bench.specs.Records.{Reading, least}
 use Rattle.bench.specs.Calls.{Printed}
 
 -- text put into the output buffer from index at on: every byte of the buffer, and the place after the text
@@ -41,3 +44,12 @@ pub record Begins (o : Printed) (code : ℕ) (r : Begun) (before after : List �
   pub line : PutsLine 0 (o .line) before after (r .used)
   pub next : state-of (r .device) ≡ o .next
   pub valid : ValidDevice (r .device)
+
+-- what is found at a stream's place: what the bytes left there read as; a record lies whole in the input buffer
+pub record Finds (read : List ℕ → Reading) (s : Stream) (r : Found) (before after : List ℕ) : Type 0 where
+  pub mark : r .mark ≡ read (left (r .stream) after) .mark
+  pub size : r .size ≡ read (left (r .stream) after) .size
+  pub same : Continues s (r .stream) before after
+  pub inside : r .size ≤ count-left (r .stream)
+  pub enough : least (r .mark) ≤ r .size
+  pub most : r .size ≤ 2062

@@ -1,9 +1,6 @@
 -- The records of the input (document 01, "Bench program"): their marks, their sizes, and which record stands at the front of some bytes.
 -- Assumes nothing.
-use Prim.Native.Nat.{ℕ, _+_, _≤_}
-use mathlib.Core.Path.{_≡_}
-use Rattle.bench.specs.declared.records.Found.{Found}
-use Rattle.bench.specs.Stream.{Fits}
+use Prim.Native.Nat.{ℕ, _+_}
 use mathlib.Core.Bool.{Bool, true, false, cond}
 use mathlib.Core.List.{List, [], _∷_}
 use lib.Dec.{leb, ltb}
@@ -77,11 +74,3 @@ unfoldable pub read-record : Bool → List ℕ → Reading
 read-record first [] = record { mark = End; size = 0 }
 read-record first (a ∷ []) = bad
 read-record first (a ∷ b ∷ rest) = read-marked (mark-of first a b) (a ∷ b ∷ rest)
-
--- the record lies whole in the input buffer, at the same offset of the input
-pub record Whole (offset : ℕ) (r : Found) : Type 0 where
-  pub fits : Fits (r .stream)
-  pub inside : r .stream .at + r .size ≤ r .stream .end
-  pub enough : least (r .mark) ≤ r .size
-  pub most : r .size ≤ 2062
-  pub place : r .stream .offset ≡ offset

@@ -2,9 +2,11 @@
 use crate::stream::Stream;
 ghost use mathlib.Core.Path.{_≡_};
 ghost use Prim.Native.Nat.{_≤_};
+ghost use lib.Dec.{eqb};
 ghost use lib.ListN.{length};
 ghost use Rattle.bench.specs.Stream.{Fits};
-ghost use Rattle.bench.specs.Records.{least, Whole};
+ghost use Rattle.bench.specs.Records.{least, mark-of, whole, read-command, read-record};
+ghost use Rattle.bench.specs.Contracts.{Finds};
 
 // What comes next: a record by its mark, no record that may stand here, or the end of the input.
 pub enum Mark {
@@ -25,7 +27,9 @@ pub struct Found {
 }
 
 // The two letters of a mark. NW comes first and once.
-fn mark_of(first: bool, a: u8, b: u8) -> Mark {
+fn mark_of(first: bool, a: u8, b: u8) -> Mark
+    ensures { λ r. ⌜ r ≡ mark-of first a b ⌝ }
+{
     let letters = (a as u32) * 256 + (b as u32);
     if first {
         return if letters == 0x4E57 {
@@ -61,8 +65,7 @@ fn least_size(mark: Mark) -> usize
 impl Stream {
     // The stream's place, where no record may stand.
     fn bad(self) -> Found
-        requires { ⌜ Fits self ⌝ }
-        ensures { λ r. ⌜ Whole (self .offset) r ⌝ }
+        ensures { λ r. ⌜ r ≡ record { mark = Mark.Bad; size = 0; stream = self } ⌝ }
     {
         Found {
             mark: Mark::Bad,
@@ -74,7 +77,7 @@ impl Stream {
     // A record of that mark and so many bytes, or a bad one where the input is cut.
     fn whole(self, mark: Mark, size: usize, input: &mut [u8], out: &[u8]) -> Found
         requires { ⌜ Fits self × (least mark ≤ size) × (size ≤ 2062) × (length (now input) ≡ 65536) × (length (now out) ≡ 65536) ⌝ }
-        ensures { λ r. ⌜ Whole (self .offset) r ⌝ }
+        ensures { λ r. ⌜ Finds (whole mark size) self r (now (input .entry)) (now (input .exit)) ⌝ }
     {
         let here = self.want(input, out, size);
         if here.end - here.at < size {
@@ -90,7 +93,7 @@ impl Stream {
     // A command, whose fixed part says how long its payload is.
     fn command(self, input: &mut [u8], out: &[u8]) -> Found
         requires { ⌜ Fits self × (length (now input) ≡ 65536) × (length (now out) ≡ 65536) ⌝ }
-        ensures { λ r. ⌜ Whole (self .offset) r ⌝ }
+        ensures { λ r. ⌜ Finds read-command self r (now (input .entry)) (now (input .exit)) ⌝ }
     {
         let here = self.want(input, out, 14);
         if here.end - here.at < 14 {
@@ -107,7 +110,7 @@ impl Stream {
     // The next record.
     pub(crate) fn next(self, input: &mut [u8], out: &[u8]) -> Found
         requires { ⌜ Fits self × (length (now input) ≡ 65536) × (length (now out) ≡ 65536) ⌝ }
-        ensures { λ r. ⌜ Whole (self .offset) r ⌝ }
+        ensures { λ r. ⌜ Finds (read-record (eqb (self .offset) 0)) self r (now (input .entry)) (now (input .exit)) ⌝ }
     {
         let here = self.want(input, out, 2);
         let left = here.end - here.at;

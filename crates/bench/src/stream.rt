@@ -4,8 +4,9 @@ use libc::STDIN_FILENO;
 use libc::STDOUT_FILENO;
 ghost use mathlib.Core.Path.{_≡_};
 ghost use Prim.Native.Nat.{_+_, _^_, _≤_, _<_};
-ghost use lib.ListN.{length};
-ghost use Rattle.bench.specs.Stream.{Fits, Past};
+ghost use lib.ListN.{length, take};
+ghost use Rattle.wire.specs.Wire.{part};
+ghost use Rattle.bench.specs.Stream.{Fits, Reads, Wants, Past, with-room};
 
 // The bytes at..end of the input buffer are not used yet; `at` lies `offset` bytes into the input; the first `used` bytes of the output buffer
 // are not written yet.
@@ -26,7 +27,7 @@ pub(crate) fn flush(out: &[u8], n: usize)
 // Sees to room for a line, of which none is longer than 4,200 bytes: how many bytes of the output buffer are not written then.
 pub(crate) fn make_room(out: &[u8], used: usize) -> usize
     requires { ⌜ (used ≤ 65536) × (length (now out) ≡ 65536) ⌝ }
-    ensures { λ r. ⌜ r + 4200 ≤ 65536 ⌝ }
+    ensures { λ r. ⌜ (r ≡ with-room used) × (r + 4200 ≤ 65536) ⌝ }
 {
     if used <= 61336 {
         return used;
@@ -38,6 +39,7 @@ pub(crate) fn make_room(out: &[u8], used: usize) -> usize
 // Moves the n bytes from index at on to the front.
 fn move_down(input: &mut [u8], at: usize, n: usize)
     requires { ⌜ at + n ≤ length (now input) ⌝ }
+    ensures { λ _. ⌜ take n (now (input .exit)) ≡ part at n (now (input .entry)) ⌝ }
 {
     let mut i: usize = 0;
     while i < n {
@@ -49,7 +51,7 @@ fn move_down(input: &mut [u8], at: usize, n: usize)
 // Reads once into the buffer from index end on: how many bytes came, 0 at the end of the input.
 fn read_once(input: &mut [u8], end: usize) -> usize
     requires { ⌜ end ≤ length (now input) ⌝ }
-    ensures { λ r. ⌜ end + r ≤ length (now (input .entry)) ⌝ }
+    ensures { λ r. ⌜ Reads end (now (input .entry)) (now (input .exit)) (end + r) ⌝ }
 {
     let got = libc::read(STDIN_FILENO, &mut input[end..]);
     io::count(got, &input[end..])
@@ -58,7 +60,7 @@ fn read_once(input: &mut [u8], end: usize) -> usize
 // Reads into the buffer from index end on until it holds n bytes or the input ends: the new end.
 fn read_until(input: &mut [u8], end: usize, n: usize) -> usize
     requires { ⌜ (end ≤ length (now input)) × (n ≤ length (now input)) ⌝ }
-    ensures { λ r. ⌜ r ≤ length (now (input .entry)) ⌝ }
+    ensures { λ r. ⌜ Reads end (now (input .entry)) (now (input .exit)) r ⌝ }
 {
     let mut e = end;
     while e < n {
@@ -88,7 +90,7 @@ impl Stream {
     // The stream with n bytes or more not used, or with all that the input has left.
     pub(crate) fn want(self, input: &mut [u8], out: &[u8], n: usize) -> Stream
         requires { ⌜ Fits self × (n ≤ 65536) × (length (now input) ≡ 65536) × (length (now out) ≡ 65536) ⌝ }
-        ensures { λ r. ⌜ Fits r × (r .offset ≡ self .offset) ⌝ }
+        ensures { λ r. ⌜ Wants n self r (now (input .entry)) (now (input .exit)) ⌝ }
     {
         let left = self.end - self.at;
         if n <= left {

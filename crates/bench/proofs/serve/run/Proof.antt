@@ -57,8 +57,8 @@ serve-requires c κs =
     let given = c .before .before .before .before .before .before .before .before .before .before .before .before .before .before .before .before .before .before .before .before .before .before .before .before .pre in (
       begun .ensures .valid,
       record {
-        order = omega (arith, p .at, p .end, found .ensures .inside);
-        input = omega (arith, p .end, found .ensures .fits .input);
+        order = omega (arith, p .at, p .end, found .ensures .inside, found .ensures .same .fits .order);
+        input = omega (arith, p .end, found .ensures .same .fits .input);
         output = omega (arith, begun .ensures .line .room, given .1);
       },
       omega (arith, found .kept, given .0),

@@ -47,7 +47,7 @@ command-requires c κs =
     let l = k .before .before .before .before .before .before .before .before .before .before .before .loop in
     let found = k .before .before .before .before .before .before .next in
     let enough = rw (c .before .before .before .before .enum-told .given .1) at (found .ensures .enough) in
-    (record { valid = l .inv .3; enough = search needs; room = omega (arith, k .before .make-room .ensures, l .inv .1) }, l .inv .2)
+    (record { valid = l .inv .3; enough = search needs; room = omega (arith, k .before .make-room .ensures .1, l .inv .1) }, l .inv .2)
 
 enum-told-2 : tie.Need-enum-told-2 Inv-loop μ-loop
 enum-told-2 c = search needs
@@ -67,7 +67,7 @@ event-requires c κs =
     let l = k .before .before .before .before .before .before .before .before .before .before .before .loop in
     let found = k .before .before .before .before .before .before .next in
     let enough = rw (c .before .before .before .enum-told2 .given .1) at (found .ensures .enough) in
-    record { valid = l .inv .3; enough = search needs; room = omega (arith, k .before .make-room .ensures, l .inv .1) }
+    record { valid = l .inv .3; enough = search needs; room = omega (arith, k .before .make-room .ensures .1, l .inv .1) }
 
 enum-told-3 : tie.Need-enum-told-3 Inv-loop μ-loop
 enum-told-3 c = search needs
@@ -87,7 +87,7 @@ media-requires c κs =
     let l = k .before .before .before .before .before .before .before .before .before .before .before .loop in
     let found = k .before .before .before .before .before .before .next in
     let enough = rw (c .before .before .before .enum-told3 .given .1) at (found .ensures .enough) in
-    record { valid = l .inv .3; enough = search needs; room = omega (arith, k .before .make-room .ensures, l .inv .1) }
+    record { valid = l .inv .3; enough = search needs; room = omega (arith, k .before .make-room .ensures .1, l .inv .1) }
 
 enum-told-4 : tie.Need-enum-told-4 Inv-loop μ-loop
 enum-told-4 c = search needs
@@ -107,7 +107,7 @@ line-requires c κs =
     let l = k .before .before .before .before .before .before .before .before .before .before .before .loop in
     let found = k .before .before .before .before .before .before .next in
     let enough = rw (c .before .before .before .enum-told4 .given .1) at (found .ensures .enough) in
-    record { valid = l .inv .3; enough = search needs; room = omega (arith, k .before .make-room .ensures, l .inv .1) }
+    record { valid = l .inv .3; enough = search needs; room = omega (arith, k .before .make-room .ensures .1, l .inv .1) }
 
 stop-requires : tie.Need-stop-requires Inv-loop μ-loop
 stop-requires c κs = search needs
@@ -129,7 +129,7 @@ loop-less c =
     let k = c .before .before .before .before .before .before .before .before .before .before .before .before in
     let found = k .before .before .before .before .before .before .next in
     let enough = rw (c .before .before .before .before .before .before .before .before .before .before .enum-told .given .1) at (found .ensures .enough) in
-    omega (arith, enough, k .past .ensures .offset, found .ensures .place, k .before .before .before .before .before .before .before .before .before .if1 .taken)
+    omega (arith, enough, k .past .ensures .offset, found .ensures .same .place, k .before .before .before .before .before .before .before .before .before .if1 .taken)
 
 loop-again : tie.Need-loop-again Inv-loop μ-loop
 loop-again c =
@@ -142,8 +142,8 @@ loop-again c =
       omega (arith, c .before .before .before .before .before .command .kept .1 .1 .0, l .inv .2),
       c .before .before .before .before .before .command .ensures .valid,
       record {
-        order = omega (arith, p .at, p .end, found .ensures .inside);
-        input = omega (arith, p .end, found .ensures .fits .input);
+        order = omega (arith, p .at, p .end, found .ensures .inside, found .ensures .same .fits .order);
+        input = omega (arith, p .end, found .ensures .same .fits .input);
         output = omega (arith, c .before .before .before .before .before .command .ensures .line .room, l .inv .1);
       },
     )
@@ -153,7 +153,7 @@ loop-less-2 c =
     let k = c .before .before .before .before .before .before .before .before .before in
     let found = k .before .before .before .before .before .before .next in
     let enough = rw (c .before .before .before .before .before .before .before .enum-told2 .given .1) at (found .ensures .enough) in
-    omega (arith, enough, k .past .ensures .offset, found .ensures .place, k .before .before .before .before .before .before .before .before .before .if1 .taken)
+    omega (arith, enough, k .past .ensures .offset, found .ensures .same .place, k .before .before .before .before .before .before .before .before .before .if1 .taken)
 
 loop-again-2 : tie.Need-loop-again-2 Inv-loop μ-loop
 loop-again-2 c =
@@ -166,8 +166,8 @@ loop-again-2 c =
       l .inv .2,
       c .before .before .before .event .ensures .valid,
       record {
-        order = omega (arith, p .at, p .end, found .ensures .inside);
-        input = omega (arith, p .end, found .ensures .fits .input);
+        order = omega (arith, p .at, p .end, found .ensures .inside, found .ensures .same .fits .order);
+        input = omega (arith, p .end, found .ensures .same .fits .input);
         output = omega (arith, c .before .before .before .event .ensures .line .room, l .inv .1);
       },
     )
@@ -177,7 +177,7 @@ loop-less-3 c =
     let k = c .before .before .before .before .before .before .before .before .before in
     let found = k .before .before .before .before .before .before .next in
     let enough = rw (c .before .before .before .before .before .before .before .enum-told3 .given .1) at (found .ensures .enough) in
-    omega (arith, enough, k .past .ensures .offset, found .ensures .place, k .before .before .before .before .before .before .before .before .before .if1 .taken)
+    omega (arith, enough, k .past .ensures .offset, found .ensures .same .place, k .before .before .before .before .before .before .before .before .before .if1 .taken)
 
 loop-again-3 : tie.Need-loop-again-3 Inv-loop μ-loop
 loop-again-3 c =
@@ -190,8 +190,8 @@ loop-again-3 c =
       l .inv .2,
       c .before .before .before .media .ensures .valid,
       record {
-        order = omega (arith, p .at, p .end, found .ensures .inside);
-        input = omega (arith, p .end, found .ensures .fits .input);
+        order = omega (arith, p .at, p .end, found .ensures .inside, found .ensures .same .fits .order);
+        input = omega (arith, p .end, found .ensures .same .fits .input);
         output = omega (arith, c .before .before .before .media .ensures .line .room, l .inv .1);
       },
     )
@@ -201,7 +201,7 @@ loop-less-4 c =
     let k = c .before .before .before .before .before .before .before .before in
     let found = k .before .before .before .before .before .before .next in
     let enough = rw (c .before .before .before .before .before .before .enum-told4 .given .1) at (found .ensures .enough) in
-    omega (arith, enough, k .past .ensures .offset, found .ensures .place, k .before .before .before .before .before .before .before .before .before .if1 .taken)
+    omega (arith, enough, k .past .ensures .offset, found .ensures .same .place, k .before .before .before .before .before .before .before .before .before .if1 .taken)
 
 loop-again-4 : tie.Need-loop-again-4 Inv-loop μ-loop
 loop-again-4 c =
@@ -214,8 +214,8 @@ loop-again-4 c =
       l .inv .2,
       l .inv .3,
       record {
-        order = omega (arith, p .at, p .end, found .ensures .inside);
-        input = omega (arith, p .end, found .ensures .fits .input);
+        order = omega (arith, p .at, p .end, found .ensures .inside, found .ensures .same .fits .order);
+        input = omega (arith, p .end, found .ensures .same .fits .input);
         output = omega (arith, c .before .before .line .ensures .room, l .inv .1);
       },
     )

@@ -1,14 +1,17 @@
--- `bench::stream::read_until` is safe and ends. The invariant: the end lies in the buffer, which keeps its length. The measure is what is left of
+-- `bench::stream::read_until` meets its contract. The invariant: the bytes before the first end are as they were. The measure is what is left of
 -- the buffer, since a read that brings nothing ends the loop. Assumes nothing.
 use mathlib.Core.Path.{_≡_}
-use Prim.Native.Nat.{_≤_, _-_}
+use Prim.Native.Nat.{_-_}
 use borrow.Author.Needs.{needs}
+use native.Mathlib.Omega.{arith}
+use Rattle.bench.proofs.StreamLaws.{reads-then}
 use lib.ListN.{length}
+use Rattle.bench.specs.Stream.{Reads}
 use Rattle.bench.proofs.stream.read_until.Statement.{statement}
 use Rattle.bench.proofs.stream.read_until.Tie as tie
 
 abbrev Inv-loop : tie.InvT-loop
-Inv-loop input₀ end n e₀ input e = (e ≤ length input) × (length input ≡ length input₀)
+Inv-loop input₀ end n e₀ input e = (length input ≡ length input₀) × Reads end input₀ input e
 
 abbrev μ-loop : tie.MeasureT-loop
 μ-loop input₀ end n e₀ input e = length input₀ - e
@@ -26,7 +29,10 @@ loop-less : tie.Need-loop-less Inv-loop μ-loop
 loop-less c = search needs
 
 loop-again : tie.Need-loop-again Inv-loop μ-loop
-loop-again c = search needs
+loop-again c =
+    let l = c .before .before .before .before .before .before .loop in
+    let got = c .before .before .before .read-once in
+    (search needs, reads-then _ (l .inv .1) (got .ensures) (l .inv .0) (got .ensures .more) (omega (arith, l .inv .0, got .ensures .fits)))
 
 same-length : tie.Need-same-length Inv-loop μ-loop
 same-length c = search needs
@@ -38,7 +44,10 @@ same-length-2 : tie.Need-same-length-2 Inv-loop μ-loop
 same-length-2 c = search needs
 
 returns-2 : tie.Need-returns-2 Inv-loop μ-loop
-returns-2 c = search needs
+returns-2 c =
+    let l = c .before .before .before .before .before .before .loop in
+    let got = c .before .before .before .read-once in
+    reads-then _ (l .inv .1) (got .ensures) (l .inv .0) (omega arith) (l .inv .1 .fits)
 
 pub read-until-spec : {M : Type 1} → statement M
 read-until-spec =

@@ -1,0 +1,202 @@
+-- The record at the front of the bytes that are left, found step by step: its mark by two letters, its size, and that it is not cut. More bytes read
+-- after those that were there do not change what they read as. Assumes nothing.
+use mathlib.Core.Path.{_≡_, refl, sym, ap, subst, _∙_}
+use mathlib.Core.Bool.{Bool, true, false, _&&_, cond}
+use mathlib.Core.Logic.{⊎-elim}
+use mathlib.Core.List.{List, [], _∷_}
+use Prim.Native.Nat.{ℕ, _+_, _*_, _≤_, _<_}
+use native.Mathlib.Nat.{add-zero}
+use native.Mathlib.Omega.{arith}
+use lib.Dec.{eqb}
+use lib.ListN.{length, getD}
+use borrow.Author.Tests.{eqb-true, eqb-false, eq-eqb, ne-eqb, le-leb, lt-leb, lt-ltb, le-ltb}
+use types.Run.{OneOf}
+use denote.Enum.Declared.{tagOf}
+use Rattle.bench.proofs.records.Mark.{the-type}
+use Rattle.wire.specs.Wire.{field, same}
+use Rattle.bench.specs.declared.stream.Stream.{Stream}
+use Rattle.bench.specs.declared.records.Found.{Found}
+use Rattle.bench.specs.declared.records.Mark.{Mark}
+use Rattle.bench.specs.declared.records.Mark.the-variants.{New, Command, Event, Media, Line, Bad, End}
+use Rattle.bench.specs.Stream.{count-left, left, Continues}
+use Rattle.bench.specs.Records.{Reading, least, mark-of, bad, whole, read-command, read-marked, read-record}
+use Rattle.bench.specs.Contracts.{Finds}
+use Rattle.bench.proofs.StreamLaws.{continues-then, length-left, field-left, getD-left, field-front, getD-front}
+
+-- ---- the mark: two letters are tested as one number
+
+letters-number : (a b x y : ℕ) → a < 256 → b < 256 → x < 256 → y < 256 → same (a ∷ b ∷ []) (x ∷ y ∷ []) ≡ eqb (a * 256 + b) (x * 256 + y)
+unfolding same
+letters-number a b x y ha hb hx hy = either (eqb a x) (eqb b y) refl refl
+  where
+    either : (t u : Bool) → eqb a x ≡ t → eqb b y ≡ u → (t && (u && true)) ≡ eqb (a * 256 + b) (x * 256 + y)
+    either true true p q = sym (eq-eqb (a * 256 + b) (x * 256 + y) (omega (arith, eqb-true a x p, eqb-true b y q)))
+    either true false p q = sym (ne-eqb (a * 256 + b) (x * 256 + y) (λ e. eqb-false b y q (omega (arith, e, eqb-true a x p))))
+    either false u p q = sym (ne-eqb (a * 256 + b) (x * 256 + y) (λ e. eqb-false a x p (omega (arith, e))))
+
+-- the mark of a later record, by the number
+abbrev pub by-number : ℕ → Mark
+by-number n = cond (eqb n 0x434D) Command (cond (eqb n 0x4556) Event (cond (eqb n 0x4D44) Media (cond (eqb n 0x4C54) Line Bad)))
+
+module _ (first : Bool) (a b : ℕ) (ha : a < 256) (hb : b < 256) where
+  as-first : first ≡ true → mark-of first a b ≡ cond (eqb (a * 256 + b) 0x4E57) New Bad
+  unfolding mark-of
+  as-first e = ap (λ (t : Bool). mark-of t a b) e ∙ ap (λ (t : Bool). cond t New Bad) (letters-number a b 78 87 ha hb (omega arith) (omega arith))
+
+  as-later : first ≡ false → mark-of first a b ≡ by-number (a * 256 + b)
+  unfolding mark-of
+  as-later e =
+      ap (λ (t : Bool). mark-of t a b) e
+      ∙ (λ i.
+      cond (letters-number a b 67 77 ha hb (omega arith) (omega arith) i) Command
+      (cond (letters-number a b 69 86 ha hb (omega arith) (omega arith) i) Event
+      (cond (letters-number a b 77 68 ha hb (omega arith) (omega arith) i) Media
+      (cond (letters-number a b 76 84 ha hb (omega arith) (omega arith) i) Line Bad))))
+
+  pub first-new : first ≡ true → a * 256 + b ≡ 0x4E57 → New ≡ mark-of first a b
+  first-new e h = sym (as-first e ∙ ap (λ (t : Bool). cond t New Bad) (eq-eqb (a * 256 + b) 0x4E57 h))
+
+  pub first-bad : first ≡ true → (a * 256 + b ≡ 0x4E57 → ⊥) → Bad ≡ mark-of first a b
+  first-bad e h = sym (as-first e ∙ ap (λ (t : Bool). cond t New Bad) (ne-eqb (a * 256 + b) 0x4E57 h))
+
+  pub later-mark : (k : ℕ) → first ≡ false → a * 256 + b ≡ k → by-number k ≡ mark-of first a b
+  later-mark k e h = sym (as-later e ∙ ap by-number h)
+
+  pub later-bad : first ≡ false → (a * 256 + b ≡ 0x434D → ⊥) → (a * 256 + b ≡ 0x4556 → ⊥) → (a * 256 + b ≡ 0x4D44 → ⊥) → (a * 256 + b ≡ 0x4C54 → ⊥) → Bad ≡ mark-of first a b
+  later-bad e h₁ h₂ h₃ h₄ =
+      sym (as-later e ∙ rw (ne-eqb (a * 256 + b) 0x434D h₁, ne-eqb (a * 256 + b) 0x4556 h₂, ne-eqb (a * 256 + b) 0x4D44 h₃, ne-eqb (a * 256 + b) 0x4C54 h₄) refl)
+
+-- ---- what some bytes read as
+
+pub whole-cut : (m : Mark) (size : ℕ) (l : List ℕ) → length l < size → whole m size l ≡ bad
+unfolding whole
+whole-cut m size l h = rw (lt-leb size (length l) h)
+
+pub whole-there : (m : Mark) (size : ℕ) (l : List ℕ) → size ≤ length l → whole m size l ≡ record { mark = m; size = size }
+unfolding whole
+whole-there m size l h = rw (le-leb size (length l) h)
+
+pub command-cut : (l : List ℕ) → length l < 14 → read-command l ≡ bad
+unfolding read-command
+command-cut l h = rw (lt-ltb (length l) 14 h)
+
+pub command-long : (l : List ℕ) → 14 ≤ length l → 2048 < field l 12 2 → read-command l ≡ bad
+unfolding read-command
+command-long l h long = rw (le-ltb (length l) 14 h, lt-ltb 2048 (field l 12 2) long)
+
+command-sized : (l : List ℕ) (n : ℕ) → 14 ≤ length l → field l 12 2 ≡ n → n ≤ 2048 → read-command l ≡ whole Command (14 + n) l
+unfolding read-command
+command-sized l n h e few =
+    let small : field l 12 2 ≤ 2048 = omega arith in
+    rw (le-ltb (length l) 14 h, le-ltb 2048 (field l 12 2) small) (ap (λ (k : ℕ). whole Command (14 + k) l) e)
+
+pub read-none : (first : Bool) (l : List ℕ) → length l ≡ 0 → read-record first l ≡ record { mark = End; size = 0 }
+unfolding read-record
+read-none first [] h = refl
+read-none first (a ∷ l) h = absurd (omega arith)
+
+pub read-one : (first : Bool) (l : List ℕ) → length l ≡ 1 → read-record first l ≡ bad
+unfolding read-record
+read-one first [] h = absurd (omega arith)
+read-one first (a ∷ []) h = refl
+read-one first (a ∷ b ∷ l) h = absurd (omega arith)
+
+read-two : (first : Bool) (l : List ℕ) → 2 ≤ length l → read-record first l ≡ read-marked (mark-of first (getD l 0 0) (getD l 1 0)) l
+unfolding read-record
+read-two first [] h = absurd (omega arith)
+read-two first (a ∷ []) h = absurd (omega arith)
+read-two first (a ∷ b ∷ l) h = refl
+
+not-one : (x : ℕ) → OneOf (0 ∷ 2 ∷ 3 ∷ 4 ∷ 5 ∷ 6 ∷ []) x → x ≡ 1 → ⊥
+not-one x h one =
+    ⊎-elim (λ e. omega arith)
+    (⊎-elim (λ e. omega arith) (⊎-elim (λ e. omega arith) (⊎-elim (λ e. omega arith) (⊎-elim (λ e. omega arith) (λ e. omega arith)))))
+    h
+
+read-other : (m : Mark) (l : List ℕ) → OneOf (0 ∷ 2 ∷ 3 ∷ 4 ∷ 5 ∷ 6 ∷ []) (tagOf the-type m) → read-marked m l ≡ whole m (least m) l
+unfolding read-marked
+read-other New l h = refl
+read-other Command l h = absurd (not-one 1 h refl)
+read-other Event l h = refl
+read-other Media l h = refl
+read-other Line l h = refl
+read-other Bad l h = refl
+read-other End l h = refl
+
+-- ---- what is found at a place
+
+pub finds-bad : {read : List ℕ → Reading} {s here : Stream} {before after : List ℕ} (r : Found) → r ≡ record { mark = Bad; size = 0; stream = here } → Continues s here before after
+    → read (left here after) ≡ bad → Finds read s r before after
+finds-bad {read} {s} {here} {before} {after} r this same e =
+    subst (λ (f : Found). Finds read s f before after) (sym this)
+    (record {
+      mark = sym (ap (λ (x : Reading). x .mark) e);
+      size = sym (ap (λ (x : Reading). x .size) e);
+      same = same;
+      inside = omega arith;
+      enough = omega arith;
+      most = omega arith;
+    })
+
+pub finds-found : {read : List ℕ → Reading} (m : Mark) (size : ℕ) {s here : Stream} {before after : List ℕ} → Continues s here before after
+    → read (left here after) ≡ record { mark = m; size = size } → size ≤ count-left here → least m ≤ size → size ≤ 2062
+    → Finds read s (record { mark = m; size = size; stream = here }) before after
+finds-found m size same e inside enough most =
+    record {
+      mark = sym (ap (λ (x : Reading). x .mark) e);
+      size = sym (ap (λ (x : Reading). x .size) e);
+      same = same;
+      inside = inside;
+      enough = enough;
+      most = most;
+    }
+
+finds-then : {read read' : List ℕ → Reading} {s here : Stream} {r : Found} {before between after : List ℕ} → Continues s here before between
+    → Finds read here r between after → read' (left (r .stream) after) ≡ read (left (r .stream) after) → Finds read' s r before after
+finds-then here found e =
+    record {
+      mark = found .mark ∙ sym (ap (λ (x : Reading). x .mark) e);
+      size = found .size ∙ sym (ap (λ (x : Reading). x .size) e);
+      same = continues-then here (found .same);
+      inside = found .inside;
+      enough = found .enough;
+      most = found .most;
+    }
+
+-- a command whose fixed part is there
+pub command-found : (n : ℕ) {s here : Stream} {r : Found} {before between after : List ℕ} → Continues s here before between → Finds (whole Command (14 + n)) here r between after
+    → n ≡ field between (here .at + 12) 2 → n ≤ 2048 → 14 ≤ count-left here → length between ≡ 65536 → length after ≡ 65536 → Finds read-command s r before after
+command-found n {s} {here} {r} {before} {between} {after} came found e few enough long long' =
+    let rest : List ℕ = left (r .stream) after in
+    let more = found .same .more in
+    let many : length rest ≡ count-left (r .stream) = length-left (r .stream) after (found .same .fits) long' in
+    let payload : field rest 12 2 ≡ n =
+    field-front (count-left here) 12 2 rest (left here between) (found .same .kept) (omega arith) (omega arith)
+    ∙ field-left here between (came .fits) long 12 2 (omega arith)
+    ∙ sym e in
+    finds-then came found (command-sized rest n (omega arith) payload few)
+
+-- a record whose mark is there
+module _ {s here : Stream} (r : Found) {before between after : List ℕ} (m : Mark) (came : Continues s here before between)
+    (e : m ≡ mark-of (eqb (here .offset) 0) (getD between (here .at) 0) (getD between (here .at + 1) 0)) (two : 2 ≤ count-left here)
+    (long : length between ≡ 65536) (long' : length after ≡ 65536) where
+  marked : Continues here (r .stream) between after → read-record (eqb (s .offset) 0) (left (r .stream) after) ≡ read-marked m (left (r .stream) after)
+  marked same =
+      let rest : List ℕ = left (r .stream) after in
+      let many : length rest ≡ count-left (r .stream) = length-left (r .stream) after (same .fits) long' in
+      let letter : (i : ℕ) → i < 2 → getD rest i 0 ≡ getD between (here .at + i) 0 =
+      λ i h. getD-front (count-left here) i rest (left here between) (same .kept) (omega arith) ∙ getD-left here between (came .fits) long i (omega arith) in
+      let zeroth : getD rest 0 0 ≡ getD between (here .at) 0 = letter 0 (omega arith) ∙ ap (λ (i : ℕ). getD between i 0) (add-zero (here .at)) in
+      read-two (eqb (s .offset) 0) rest (omega (arith, same .more))
+      ∙ (λ i. read-marked (mark-of (eqb (sym (came .place) i) 0) (zeroth i) (letter 1 (omega arith) i)) rest)
+      ∙ ap (λ (k : Mark). read-marked k rest) (sym e)
+
+  pub next-command : m ≡ Command → Finds read-command here r between after → Finds (read-record (eqb (s .offset) 0)) s r before after
+  unfolding read-marked
+  next-command this found = finds-then came found (marked (found .same) ∙ ap (λ (k : Mark). read-marked k (left (r .stream) after)) this)
+
+  pub next-other : (size : ℕ) → OneOf (0 ∷ 2 ∷ 3 ∷ 4 ∷ 5 ∷ 6 ∷ []) (tagOf the-type m) → size ≡ least m → Finds (whole m size) here r between after
+      → Finds (read-record (eqb (s .offset) 0)) s r before after
+  next-other size other sized found =
+      finds-then came found
+      (marked (found .same) ∙ read-other m (left (r .stream) after) other ∙ ap (λ (k : ℕ). whole m k (left (r .stream) after)) (sym sized))
