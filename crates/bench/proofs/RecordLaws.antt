@@ -4,22 +4,24 @@ use mathlib.Core.Path.{_≡_, refl, sym, ap, subst, _∙_}
 use mathlib.Core.Bool.{Bool, true, false, _&&_, cond}
 use mathlib.Core.Logic.{⊎-elim}
 use mathlib.Core.List.{List, [], _∷_}
-use Prim.Native.Nat.{ℕ, _+_, _*_, _≤_, _<_}
+use Prim.Native.Nat.{ℕ, _+_, _*_, _≤_, _<_, _-_}
 use native.Mathlib.Nat.{add-zero}
 use native.Mathlib.Omega.{arith}
-use lib.Dec.{eqb}
-use lib.ListN.{length, getD}
+use lib.Dec.{eqb, leb}
+use lib.ListN.{length, getD, take, drop, length-take}
 use borrow.Author.Tests.{eqb-true, eqb-false, eq-eqb, ne-eqb, le-leb, lt-leb, lt-ltb, le-ltb}
+use lib.Seq.{take-take, getD-take}
+use native.Mathlib.Decide.{decLt}
 use types.Run.{OneOf}
 use denote.Enum.Declared.{tagOf}
 use Rattle.bench.proofs.records.Mark.{the-type}
-use Rattle.wire.specs.Wire.{field, same}
+use Rattle.wire.specs.Wire.{field, part, same}
 use Rattle.bench.specs.declared.stream.Stream.{Stream}
 use Rattle.bench.specs.declared.records.Found.{Found}
 use Rattle.bench.specs.declared.records.Mark.{Mark}
 use Rattle.bench.specs.declared.records.Mark.the-variants.{New, Command, Event, Media, Line, Bad, End}
-use Rattle.bench.specs.Stream.{count-left, left, Continues}
-use Rattle.bench.specs.Records.{Reading, least, mark-of, bad, whole, read-command, read-marked, read-record}
+use Rattle.bench.specs.Stream.{count-left, left, Continues, Past}
+use Rattle.bench.specs.Records.{Reading, least, spells, mark-of, bad, whole, read-command, read-marked, read-record, OneRecord, served}
 use Rattle.bench.specs.Contracts.{Finds}
 use Rattle.bench.proofs.StreamLaws.{continues-then, length-left, field-left, getD-left, field-front, getD-front}
 
@@ -200,3 +202,109 @@ module _ {s here : Stream} (r : Found) {before between after : List ℕ} (m : Ma
   next-other size other sized found =
       finds-then came found
       (marked (found .same) ∙ read-other m (left (r .stream) after) other ∙ ap (λ (k : ℕ). whole m k (left (r .stream) after)) (sym sized))
+
+-- ---- a record found, taken out of the bytes left: its bytes read as the same record
+
+-- a size that is not 0 tells that a record was read
+whole-told : (k m : Mark) (n size : ℕ) (l : List ℕ) → whole k n l ≡ record { mark = m; size = size } → 0 < size → (n ≡ size) × (k ≡ m)
+unfolding whole
+whole-told k m n size l e some = either (leb n (length l)) e
+  where
+    either : (t : Bool) → cond t (record { mark = k; size = n }) bad ≡ record { mark = m; size = size } → (n ≡ size) × (k ≡ m)
+    either true h = (ap (λ (x : Reading). x .size) h, ap (λ (x : Reading). x .mark) h)
+    either false h = let none : 0 ≡ size = ap (λ (x : Reading). x .size) h in absurd (omega arith)
+
+whole-again : (k m : Mark) (n size : ℕ) (l : List ℕ) → whole k n l ≡ record { mark = m; size = size } → 0 < size → size ≤ length l
+    → whole k n (take size l) ≡ record { mark = m; size = size }
+whole-again k m n size l e some fits =
+    let told = whole-told k m n size l e some in
+    let long : length (take size l) ≡ size = rw length-take (omega arith) in
+    whole-there k n (take size l) (omega (arith, told .0, long)) ∙ (λ i. record { mark = told .1 i; size = told .0 i })
+
+command-again : (m : Mark) (size : ℕ) (l : List ℕ) → read-command l ≡ record { mark = m; size = size } → 0 < size → size ≤ length l
+    → read-command (take size l) ≡ record { mark = m; size = size }
+command-again m size l e some fits = short (decLt (length l) 14)
+  where
+    sized : 14 ≤ length l → field l 12 2 ≤ 2048 → read-command (take size l) ≡ record { mark = m; size = size }
+    sized enough few =
+        let given = sym (command-sized l (field l 12 2) enough refl few) ∙ e in
+        let told = whole-told Command m (14 + field l 12 2) size l given some in
+        let long : length (take size l) ≡ size = rw length-take (omega arith) in
+        command-sized (take size l) (field l 12 2) (omega (arith, told .0, long)) (sym (field-front size 12 2 l (take size l) refl (omega (arith, told .0)) fits)) few
+        ∙ whole-again Command m (14 + field l 12 2) size l given some fits
+
+    full : 14 ≤ length l → Dec (2048 < field l 12 2) → read-command (take size l) ≡ record { mark = m; size = size }
+    full enough (yes many) =
+        let none : 0 ≡ size = ap (λ (x : Reading). x .size) (sym (command-long l enough many) ∙ e) in
+        absurd (omega arith)
+    full enough (no many) = sized enough (omega arith)
+
+    short : Dec (length l < 14) → read-command (take size l) ≡ record { mark = m; size = size }
+    short (yes few) =
+        let none : 0 ≡ size = ap (λ (x : Reading). x .size) (sym (command-cut l few) ∙ e) in
+        absurd (omega arith)
+    short (no few) = full (omega arith) (decLt 2048 (field l 12 2))
+
+marked-again : (k m : Mark) (size : ℕ) (l : List ℕ) → read-marked k l ≡ record { mark = m; size = size } → 0 < size → size ≤ length l
+    → read-marked k (take size l) ≡ record { mark = m; size = size }
+unfolding read-marked
+marked-again New m size l e some fits = whole-again New m 6 size l e some fits
+marked-again Command m size l e some fits = command-again m size l e some fits
+marked-again Event m size l e some fits = whole-again Event m 139 size l e some fits
+marked-again Media m size l e some fits = whole-again Media m 23 size l e some fits
+marked-again Line m size l e some fits = whole-again Line m 10 size l e some fits
+marked-again Bad m size l e some fits = whole-again Bad m 0 size l e some fits
+marked-again End m size l e some fits = whole-again End m 0 size l e some fits
+
+read-again : (first : Bool) (m : Mark) (size : ℕ) (l : List ℕ) → read-record first l ≡ record { mark = m; size = size } → 2 ≤ size → size ≤ length l
+    → read-record first (take size l) ≡ record { mark = m; size = size }
+read-again first m size l e some fits =
+    let two : 2 ≤ length (take size l) = rw length-take (omega arith) in
+    read-two first (take size l) two
+    ∙ (λ i. read-marked (mark-of first (getD-take size l 0 0 (omega arith) i) (getD-take size l 1 0 (omega arith) i)) (take size l))
+    ∙ marked-again (mark-of first (getD l 0 0) (getD l 1 0)) m size l (sym (read-two first l (omega arith)) ∙ e) (omega arith) fits
+
+pub one-record : (first : Bool) (m : Mark) {s : Stream} {r : Found} {p : Stream} {before after : List ℕ} → Finds (read-record (eqb (s .offset) 0)) s r before after
+    → eqb (s .offset) 0 ≡ first → length after ≡ 65536 → Past (r .stream) (r .size) p → r .mark ≡ m → 2 ≤ least m
+    → OneRecord first m (take (p .at - r .stream .at) (drop (r .stream .at) after))
+unfolding part
+one-record first m {s} {r} {p} {before} {after} found this long step e two =
+    let l : List ℕ = left (r .stream) after in
+    let many : length l ≡ count-left (r .stream) = length-left (r .stream) after (found .same .fits) long in
+    let enough : least m ≤ r .size = rw e at (found .enough) in
+    let width : p .at - r .stream .at ≡ r .size = omega (arith, step .at) in
+    let taken : take (p .at - r .stream .at) (drop (r .stream .at) after) ≡ take (r .size) l =
+    ap (λ (k : ℕ). take k (drop (r .stream .at) after)) width
+    ∙ sym (take-take (r .size) (count-left (r .stream)) (drop (r .stream .at) after) (found .inside)) in
+    let size : length (take (r .size) l) ≡ r .size = rw length-take (omega (arith, found .inside)) in
+    let given : read-record first l ≡ record { mark = m; size = r .size } =
+    ap (λ (t : Bool). read-record t l) (sym this) ∙ (λ i. record { mark = (sym (found .mark) ∙ e) i; size = sym (found .size) i }) in
+    let again : read-record first (take (r .size) l) ≡ record { mark = m; size = r .size } = read-again first m (r .size) l given (omega arith) (omega (arith, found .inside)) in
+    subst (OneRecord first m) (sym taken)
+    (record { read = again ∙ (λ i. record { mark = m; size = sym size i }); enough = omega arith })
+
+-- ---- where no record is served
+
+pub none-served : (m : Mark) → OneOf (0 ∷ 5 ∷ 6 ∷ []) (tagOf the-type m) → served m ≡ false
+none-served New h = refl
+none-served Command h = absurd (⊎-elim (λ e. omega arith) (⊎-elim (λ e. omega arith) (λ e. omega arith)) h)
+none-served Event h = absurd (⊎-elim (λ e. omega arith) (⊎-elim (λ e. omega arith) (λ e. omega arith)) h)
+none-served Media h = absurd (⊎-elim (λ e. omega arith) (⊎-elim (λ e. omega arith) (λ e. omega arith)) h)
+none-served Line h = absurd (⊎-elim (λ e. omega arith) (⊎-elim (λ e. omega arith) (λ e. omega arith)) h)
+none-served Bad h = refl
+none-served End h = refl
+
+-- the first record is NW or none
+or-bad : (m : Mark) (n : ℕ) → served m ≡ false → (t : Bool) → served (cond t (record { mark = m; size = n }) bad .mark) ≡ false
+or-bad m n h true = h
+or-bad m n h false = refl
+
+pub first-served : (l : List ℕ) → served (read-record true l .mark) ≡ false
+unfolding read-record mark-of read-marked whole
+first-served [] = refl
+first-served (a ∷ []) = refl
+first-served (a ∷ b ∷ rest) = either (spells New a b)
+  where
+    either : (t : Bool) → served (read-marked (cond t New Bad) (a ∷ b ∷ rest) .mark) ≡ false
+    either true = or-bad New 6 refl (leb 6 (length (a ∷ b ∷ rest)))
+    either false = or-bad Bad 0 refl (leb 0 (length (a ∷ b ∷ rest)))

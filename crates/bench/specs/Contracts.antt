@@ -2,6 +2,7 @@
 -- Assumes nothing.
 use Prim.Native.Nat.{ℕ, _+_, _≤_}
 use mathlib.Core.Path.{_≡_}
+use mathlib.Core.Bool.{false}
 use mathlib.Core.List.{List}
 use lib.ListN.{length}
 use Rattle.wire.specs.Wire.{splice}
@@ -13,7 +14,7 @@ use Rattle.bench.specs.declared.serve.Begun.{Begun}
 use Rattle.bench.specs.declared.stream.Stream.{Stream}
 use Rattle.bench.specs.declared.records.Found.{Found}
 use Rattle.bench.specs.Stream.{count-left, left, Continues}
-use Rattle.bench.specs.Records.{Reading, least}
+use Rattle.bench.specs.Records.{Reading, least, OneRecord}
 use Rattle.bench.specs.Calls.{Printed}
 
 -- text put into the output buffer from index at on: every byte of the buffer, and the place after the text
@@ -26,10 +27,10 @@ pub record PutsLine (at : ℕ) (text before after : List ℕ) (r : ℕ) : Type 0
   pub puts : Puts at text before after r
   pub room : r ≤ length before
 
--- what a record's function is given: a valid device, the bytes of a record of that mark, and room for a line
+-- what a record's function is given: a valid device, the bytes of one record of that mark, and room for a line
 pub record Ready (mark : Mark) (d : Device) (r : List ℕ) (used : ℕ) (out : List ℕ) : Type 0 where
   pub valid : ValidDevice d
-  pub enough : least mark ≤ length r
+  pub this : OneRecord false mark r
   pub room : used + 4200 ≤ length out
 
 -- a record served: its line put into the output buffer, and the device that follows

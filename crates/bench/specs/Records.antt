@@ -1,6 +1,7 @@
 -- The records of the input (document 01, "Bench program"): their marks, their sizes, and which record stands at the front of some bytes.
 -- Assumes nothing.
-use Prim.Native.Nat.{ℕ, _+_}
+use Prim.Native.Nat.{ℕ, _+_, _≤_}
+use mathlib.Core.Path.{_≡_}
 use mathlib.Core.Bool.{Bool, true, false, cond}
 use mathlib.Core.List.{List, [], _∷_}
 use lib.Dec.{leb, ltb}
@@ -74,3 +75,18 @@ unfoldable pub read-record : Bool → List ℕ → Reading
 read-record first [] = record { mark = End; size = 0 }
 read-record first (a ∷ []) = bad
 read-record first (a ∷ b ∷ rest) = read-marked (mark-of first a b) (a ∷ b ∷ rest)
+
+-- those bytes are one whole record of that mark, and nothing more
+pub record OneRecord (first : Bool) (m : Mark) (r : List ℕ) : Type 0 where
+  pub read : read-record first r ≡ record { mark = m; size = length r }
+  pub enough : least m ≤ length r
+
+-- whether a record of that mark is served after the first
+abbrev pub served : Mark → Bool
+served New = false
+served Command = true
+served Event = true
+served Media = true
+served Line = true
+served Bad = false
+served End = false

@@ -12,12 +12,14 @@ use mailbox::device_calls::EventAnswer;
 use mailbox::device_calls::LineAnswer;
 use mailbox::device_calls::MediaAnswer;
 ghost use mathlib.Core.Path.{_≡_};
-ghost use Prim.Native.Nat.{_+_, _≤_};
+ghost use mathlib.Core.Bool.{true, false};
+ghost use Prim.Native.Nat.{_+_, _≤_, _<_};
 ghost use lib.ListN.{length};
 ghost use Rattle.mailbox.specs.State.{ValidDevice, state-of};
 ghost use Rattle.mailbox.specs.Contracts.{Answered, EventDone, MediaDone, LineDone};
-ghost use Rattle.bench.specs.declared.records.Mark.the-variants.{Command, Event, Media, Line};
+ghost use Rattle.bench.specs.declared.records.Mark.the-variants.{New, Command, Event, Media, Line};
 ghost use Rattle.bench.specs.Stream.{Fits};
+ghost use Rattle.bench.specs.Records.{OneRecord, served};
 ghost use Rattle.bench.specs.Lines.{last-line};
 ghost use Rattle.bench.specs.Calls.{new-call, command-call, event-call, media-call, line-call, first-record, serve-record};
 ghost use Rattle.bench.specs.Contracts.{PutsLine, Ready, Serves, Begins};
@@ -144,7 +146,7 @@ fn line(device: Device, bytes: &[u8], out: &mut [u8], used: usize) -> usize
 
 // Where no record is served: nothing more to print at the end of the input, and otherwise the line BAD.
 fn stop(mark: Mark, out: &mut [u8], used: usize, offset: u64) -> usize
-    requires { ⌜ used + 4200 ≤ length (now out) ⌝ }
+    requires { ⌜ (served mark ≡ false) × (used + 4200 ≤ length (now out)) ⌝ }
     ensures { λ r. ⌜ PutsLine used (last-line mark offset) (now (out .entry)) (now (out .exit)) r ⌝ }
 {
     if let Mark::End = mark {
@@ -155,7 +157,7 @@ fn stop(mark: Mark, out: &mut [u8], used: usize, offset: u64) -> usize
 
 // Serves the records after the first. A proved loop has to end: it does at an offset that no input reaches.
 fn serve(made: Device, start: Stream, input: &mut [u8], out: &mut [u8], reply: &mut [u8]) -> usize
-    requires { ⌜ ValidDevice made × Fits start × (length (now input) ≡ 65536) × (length (now out) ≡ 65536) × (length (now reply) ≡ 2048) ⌝ }
+    requires { ⌜ ValidDevice made × Fits start × (0 < start .offset) × (length (now input) ≡ 65536) × (length (now out) ≡ 65536) × (length (now reply) ≡ 2048) ⌝ }
     ensures { λ r. ⌜ r ≤ 65536 ⌝ }
 {
     let mut device = made;
@@ -202,7 +204,7 @@ fn serve(made: Device, start: Stream, input: &mut [u8], out: &mut [u8], reply: &
 
 // NW (volatile 2, persistent 2): the device made.
 fn begin(bytes: &[u8], out: &mut [u8]) -> Begun
-    requires { ⌜ (6 ≤ length (now bytes)) × (length (now out) ≡ 65536) ⌝ }
+    requires { ⌜ OneRecord true New (now bytes) × (4200 ≤ length (now out)) ⌝ }
     ensures { λ r. ⌜ Begins (first-record (now (bytes .entry))) (new-call (now (bytes .entry)) .code) r (now (out .entry)) (now (out .exit)) ⌝ }
 {
     let volatile = wire::get(bytes, 2, 2) as u16;

@@ -1,6 +1,11 @@
 -- `bench::serve::run` is safe and ends: what `serve` requires holds after the first record. Assumes nothing.
 use native.Mathlib.Omega.{arith}
 use borrow.Author.Needs.{needs}
+use mathlib.Core.Path.{refl, ap, _∙_}
+use mathlib.Core.Bool.{true}
+use Rattle.bench.specs.declared.records.Mark.the-variants.{New}
+use Rattle.bench.specs.Records.{served}
+use Rattle.bench.proofs.RecordLaws.{one-record, first-served}
 use Rattle.bench.proofs.serve.run.Statement.{statement}
 use Rattle.bench.proofs.serve.run.Tie as tie
 
@@ -11,7 +16,7 @@ enum-told : tie.Need-enum-told
 enum-told c = search needs
 
 stop-requires : tie.Need-stop-requires
-stop-requires c κs = search needs
+stop-requires c κs = (ap served (c .before .before .before .before .before .next .ensures .mark) ∙ first-served _, omega (arith, c .before .before .before .before .before .before .before .before .before .before .before .pre .1))
 
 same-length : tie.Need-same-length
 same-length c = search needs
@@ -37,8 +42,8 @@ part-begin-end c = search needs
 begin-requires : tie.Need-begin-requires
 begin-requires c κs =
     let found = c .before .before .before .before .before .before .before .before .before .next in
-    let enough = rw (c .before .before .before .before .enum-told .given .1) at (found .ensures .enough) in
-    (search needs, omega (arith, c .before .before .before .before .before .before .before .before .before .before .before .before .before .before .before .pre .1))
+    let given = c .before .before .before .before .before .before .before .before .before .before .before .before .before .before .before .pre in
+    (one-record true New (found .ensures) refl (omega (arith, found .kept, given .0)) (c .before .before .before .past .ensures) (c .before .before .before .before .enum-told .given .1) (omega arith), omega (arith, given .1))
 
 same-length-3 : tie.Need-same-length-3
 same-length-3 c = search needs
@@ -54,6 +59,7 @@ serve-requires c κs =
     let begun = c .before .before .before .before .before .before .before .before .begin in
     let p = c .before .before .before .before .before .before .before .before .before .before .before .before .past .ensures in
     let found = c .before .before .before .before .before .before .before .before .before .before .before .before .before .before .before .before .before .before .next in
+    let enough = rw (c .before .before .before .before .before .before .before .before .before .before .before .before .before .enum-told .given .1) at (found .ensures .enough) in
     let given = c .before .before .before .before .before .before .before .before .before .before .before .before .before .before .before .before .before .before .before .before .before .before .before .before .pre in (
       begun .ensures .valid,
       record {
@@ -61,6 +67,7 @@ serve-requires c κs =
         input = omega (arith, p .end, found .ensures .same .fits .input);
         output = omega (arith, begun .ensures .line .room, given .1);
       },
+      omega (arith, p .offset, enough),
       omega (arith, found .kept, given .0),
       omega (arith, begun .kept, given .1),
       given .2,

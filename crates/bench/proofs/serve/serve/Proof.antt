@@ -1,9 +1,13 @@
 -- `bench::serve::serve` is safe and ends, and calls each record's function with what it asks. The invariant: the three buffers keep their lengths, the
 -- device is valid, and the stream's places lie in the buffers. The measure is what is left of the offsets. Assumes nothing.
 use mathlib.Core.Path.{_≡_}
-use Prim.Native.Nat.{_-_}
+use Prim.Native.Nat.{_-_, _<_}
 use native.Mathlib.Omega.{arith}
 use borrow.Author.Needs.{needs}
+use borrow.Author.Tests.{ne-eqb}
+use mathlib.Core.Bool.{false}
+use Rattle.bench.specs.declared.records.Mark.the-variants.{Command, Event, Media, Line}
+use Rattle.bench.proofs.RecordLaws.{one-record, none-served}
 use Rattle.mailbox.specs.State.{ValidDevice}
 use Rattle.bench.specs.Stream.{Fits}
 use lib.ListN.{length}
@@ -12,7 +16,7 @@ use Rattle.bench.proofs.serve.serve.Tie as tie
 
 abbrev Inv-loop : tie.InvT-loop
 Inv-loop input₀ out₀ reply₀ device₀ s₀ input out reply device s =
-    (length input ≡ 65536) × (length out ≡ 65536) × (length reply ≡ 2048) × ValidDevice device × Fits s
+    (length input ≡ 65536) × (length out ≡ 65536) × (length reply ≡ 2048) × ValidDevice device × Fits s × (0 < s .offset)
 
 abbrev μ-loop : tie.MeasureT-loop
 μ-loop input₀ out₀ reply₀ device₀ s₀ input out reply device s = 9223372036854775808 - s .offset
@@ -45,9 +49,14 @@ command-requires : tie.Need-command-requires Inv-loop μ-loop
 command-requires c κs =
     let k = c .before .before .before .before .before .before in
     let l = k .before .before .before .before .before .before .before .before .before .before .before .loop in
-    let found = k .before .before .before .before .before .before .next in
-    let enough = rw (c .before .before .before .before .enum-told .given .1) at (found .ensures .enough) in
-    (record { valid = l .inv .3; enough = search needs; room = omega (arith, k .before .make-room .ensures .1, l .inv .1) }, l .inv .2)
+    let found = k .before .before .before .before .before .before .next in (
+      record {
+        valid = l .inv .3;
+        this = one-record false Command (found .ensures) (ne-eqb (l .s .offset) 0 (λ e. omega (arith, e, l .inv .5))) (omega (arith, found .kept, l .inv .0)) (k .past .ensures) (c .before .before .before .before .enum-told .given .1) (omega arith);
+        room = omega (arith, k .before .make-room .ensures .1, l .inv .1);
+      },
+      l .inv .2,
+    )
 
 enum-told-2 : tie.Need-enum-told-2 Inv-loop μ-loop
 enum-told-2 c = search needs
@@ -66,8 +75,11 @@ event-requires c κs =
     let k = c .before .before .before .before .before in
     let l = k .before .before .before .before .before .before .before .before .before .before .before .loop in
     let found = k .before .before .before .before .before .before .next in
-    let enough = rw (c .before .before .before .enum-told2 .given .1) at (found .ensures .enough) in
-    record { valid = l .inv .3; enough = search needs; room = omega (arith, k .before .make-room .ensures .1, l .inv .1) }
+    record {
+      valid = l .inv .3;
+      this = one-record false Event (found .ensures) (ne-eqb (l .s .offset) 0 (λ e. omega (arith, e, l .inv .5))) (omega (arith, found .kept, l .inv .0)) (k .past .ensures) (c .before .before .before .enum-told2 .given .1) (omega arith);
+      room = omega (arith, k .before .make-room .ensures .1, l .inv .1);
+    }
 
 enum-told-3 : tie.Need-enum-told-3 Inv-loop μ-loop
 enum-told-3 c = search needs
@@ -86,8 +98,11 @@ media-requires c κs =
     let k = c .before .before .before .before .before in
     let l = k .before .before .before .before .before .before .before .before .before .before .before .loop in
     let found = k .before .before .before .before .before .before .next in
-    let enough = rw (c .before .before .before .enum-told3 .given .1) at (found .ensures .enough) in
-    record { valid = l .inv .3; enough = search needs; room = omega (arith, k .before .make-room .ensures .1, l .inv .1) }
+    record {
+      valid = l .inv .3;
+      this = one-record false Media (found .ensures) (ne-eqb (l .s .offset) 0 (λ e. omega (arith, e, l .inv .5))) (omega (arith, found .kept, l .inv .0)) (k .past .ensures) (c .before .before .before .enum-told3 .given .1) (omega arith);
+      room = omega (arith, k .before .make-room .ensures .1, l .inv .1);
+    }
 
 enum-told-4 : tie.Need-enum-told-4 Inv-loop μ-loop
 enum-told-4 c = search needs
@@ -106,11 +121,16 @@ line-requires c κs =
     let k = c .before .before .before .before .before in
     let l = k .before .before .before .before .before .before .before .before .before .before .before .loop in
     let found = k .before .before .before .before .before .before .next in
-    let enough = rw (c .before .before .before .enum-told4 .given .1) at (found .ensures .enough) in
-    record { valid = l .inv .3; enough = search needs; room = omega (arith, k .before .make-room .ensures .1, l .inv .1) }
+    record {
+      valid = l .inv .3;
+      this = one-record false Line (found .ensures) (ne-eqb (l .s .offset) 0 (λ e. omega (arith, e, l .inv .5))) (omega (arith, found .kept, l .inv .0)) (k .past .ensures) (c .before .before .before .enum-told4 .given .1) (omega arith);
+      room = omega (arith, k .before .make-room .ensures .1, l .inv .1);
+    }
 
 stop-requires : tie.Need-stop-requires Inv-loop μ-loop
-stop-requires c κs = search needs
+stop-requires c κs =
+    let k = c .before .before in
+    (none-served (k .before .before .before .before .before .before .next .result .mark) (c .before .match .keys5), omega (arith, k .before .make-room .ensures .1, k .before .before .before .before .before .before .before .before .before .before .before .loop .inv .1))
 
 same-length : tie.Need-same-length Inv-loop μ-loop
 same-length c = search needs
@@ -146,6 +166,7 @@ loop-again c =
         input = omega (arith, p .end, found .ensures .same .fits .input);
         output = omega (arith, c .before .before .before .before .before .command .ensures .line .room, l .inv .1);
       },
+      omega (arith, p .offset, found .ensures .same .place, l .inv .5),
     )
 
 loop-less-2 : tie.Need-loop-less-2 Inv-loop μ-loop
@@ -170,6 +191,7 @@ loop-again-2 c =
         input = omega (arith, p .end, found .ensures .same .fits .input);
         output = omega (arith, c .before .before .before .event .ensures .line .room, l .inv .1);
       },
+      omega (arith, p .offset, found .ensures .same .place, l .inv .5),
     )
 
 loop-less-3 : tie.Need-loop-less-3 Inv-loop μ-loop
@@ -194,6 +216,7 @@ loop-again-3 c =
         input = omega (arith, p .end, found .ensures .same .fits .input);
         output = omega (arith, c .before .before .before .media .ensures .line .room, l .inv .1);
       },
+      omega (arith, p .offset, found .ensures .same .place, l .inv .5),
     )
 
 loop-less-4 : tie.Need-loop-less-4 Inv-loop μ-loop
@@ -218,6 +241,7 @@ loop-again-4 c =
         input = omega (arith, p .end, found .ensures .same .fits .input);
         output = omega (arith, c .before .before .line .ensures .room, l .inv .1);
       },
+      omega (arith, p .offset, found .ensures .same .place, l .inv .5),
     )
 
 same-length-4 : tie.Need-same-length-4 Inv-loop μ-loop
