@@ -12,7 +12,7 @@ use Rattle.mailbox.specs.declared.device.Answer.{Answer}
 use Rattle.mailbox.specs.declared.device_calls.EventAnswer.{EventAnswer}
 use Rattle.mailbox.specs.declared.device_calls.MediaAnswer.{MediaAnswer}
 use Rattle.mailbox.specs.declared.device_calls.LineAnswer.{LineAnswer}
-use Rattle.mailbox.specs.State.{state-of}
+use Rattle.mailbox.specs.State.{DeviceState, state-of}
 use Rattle.mailbox.specs.Outcome.{Outcome}
 use Rattle.mailbox.specs.Mailbox.{outcome}
 use Rattle.mailbox.specs.DeviceCalls.{MakeOutcome, EventOutcome, MediaOutcome, LineOutcome, make, event-report, media-report, line-test}
@@ -107,6 +107,11 @@ unfolding serve-record
 line-served bytes d told ex ey put room =
     fits (puts-as put (λ i. pair-line (letters Line) (told .code i) ((ex ∙ told .number) i) ((ey ∙ told .kind) i)))
     (length-pair-line (line-call (state-of d) bytes .code) 76 84 (line-call (state-of d) bytes .number) (line-call (state-of d) bytes .kind)) room
+
+-- a line test leaves the device
+pub line-stays : (bytes : List ℕ) (d : DeviceState) → d ≡ serve-record Line d bytes .next
+unfolding serve-record
+line-stays bytes d = refl
 
 -- the first record served
 pub begun : (bytes : List ℕ) (v p : ℕ) {m : Made} {h e : ℕ} {before between after : List ℕ} → Makes (make v p) m → v ≡ field bytes 2 2 → p ≡ field bytes 4 2

@@ -6,4 +6,5 @@ mod CallLaws
 mod MarkLaws
 mod StreamLaws
 mod RecordLaws
+mod RunLaws
 mod Trials

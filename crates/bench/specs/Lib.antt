@@ -4,4 +4,5 @@ pub mod Stream
 pub mod Records
 pub mod Lines
 pub mod Calls
+pub mod Runs
 pub mod Contracts

@@ -22,6 +22,7 @@ ghost use Rattle.bench.specs.Stream.{Fits};
 ghost use Rattle.bench.specs.Records.{OneRecord, served};
 ghost use Rattle.bench.specs.Lines.{last-line};
 ghost use Rattle.bench.specs.Calls.{new-call, command-call, event-call, media-call, line-call, first-record, serve-record};
+ghost use Rattle.bench.specs.Runs.{machine-of, Ends, Runs};
 ghost use Rattle.bench.specs.Contracts.{PutsLine, Ready, Serves, Begins};
 
 // The device made by NW, its return number, and the bytes of the output buffer that are not written yet.
@@ -158,7 +159,7 @@ fn stop(mark: Mark, out: &mut [u8], used: usize, offset: u64) -> usize
 // Serves the records after the first. A proved loop has to end: it does at an offset that no input reaches.
 fn serve(made: Device, start: Stream, input: &mut [u8], out: &mut [u8], reply: &mut [u8]) -> usize
     requires { ⌜ ValidDevice made × Fits start × (0 < start .offset) × (length (now input) ≡ 65536) × (length (now out) ≡ 65536) × (length (now reply) ≡ 2048) ⌝ }
-    ensures { λ r. ⌜ r ≤ 65536 ⌝ }
+    ensures { λ r. ⌜ (r ≤ 65536) × Ends (machine-of (state-of made) start (now (input .entry)) (now (out .entry))) r (now (out .exit)) ⌝ }
 {
     let mut device = made;
     let mut s = start;
@@ -220,7 +221,7 @@ fn begin(bytes: &[u8], out: &mut [u8]) -> Begun
 // Makes the device by the first record and serves the others: how many bytes of the output buffer are not written yet.
 pub(crate) fn run(input: &mut [u8], out: &mut [u8], reply: &mut [u8]) -> usize
     requires { ⌜ (length (now input) ≡ 65536) × (length (now out) ≡ 65536) × (length (now reply) ≡ 2048) ⌝ }
-    ensures { λ r. ⌜ r ≤ 65536 ⌝ }
+    ensures { λ r. ⌜ (r ≤ 65536) × Runs r (now (out .exit)) ⌝ }
 {
     let start = Stream {
         at: 0,

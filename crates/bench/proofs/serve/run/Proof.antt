@@ -1,6 +1,10 @@
--- `bench::serve::run` is safe and ends: what `serve` requires holds after the first record. Assumes nothing.
+-- `bench::serve::run` meets its contract: the first record, then the run of `serve`. Assumes nothing.
 use native.Mathlib.Omega.{arith}
 use borrow.Author.Needs.{needs}
+use lib.ListN.{take, drop}
+use Prim.Native.Nat.{_-_}
+use Rattle.bench.specs.Records.{OneRecord}
+use Rattle.bench.proofs.RunLaws.{length-taken, run-unmade, run-refused, run-made}
 use mathlib.Core.Path.{refl, ap, _∙_}
 use mathlib.Core.Bool.{true}
 use Rattle.bench.specs.declared.records.Mark.the-variants.{New}
@@ -25,7 +29,12 @@ same-length-2 : tie.Need-same-length-2
 same-length-2 c = search needs
 
 returns : tie.Need-returns
-returns c = omega (arith, c .before .before .stop .ensures .room, c .before .before .before .before .before .before .before .before .before .before .before .before .before .before .pre .1)
+returns c =
+    let found = c .before .before .before .before .before .before .before .before .next in
+    let told = c .before .before .stop .ensures in (
+      omega (arith, told .room, c .before .before .before .before .before .before .before .before .before .before .before .before .before .before .pre .1),
+      run-unmade (found .result .mark) _ _ (found .ensures .mark) (c .before .before .before .before .match .keys2) (found .ensures .same .place) (told .puts),
+    )
 
 past-requires : tie.Need-past-requires
 past-requires c κs = search needs
@@ -39,11 +48,16 @@ part-begin-start c = search needs
 part-begin-end : tie.Need-part-begin-end
 part-begin-end c = search needs
 
+-- the first record's bytes, taken out of the input buffer, are NW
+this :
+    (k : tie.After-past)
+    → OneRecord true New (take (k .past .result .at - k .before .before .before .before .before .before .next .result .stream .at) (drop (k .before .before .before .before .before .before .next .result .stream .at) (k .before .before .before .before .before .before .next .last .1 .0)))
+this k =
+    let found = k .before .before .before .before .before .before .next in
+    one-record true New (found .ensures) refl (omega (arith, found .kept, k .before .before .before .before .before .before .before .before .before .before .before .before .pre .0)) (k .past .ensures) (k .before .enum-told .given .1) (omega arith)
+
 begin-requires : tie.Need-begin-requires
-begin-requires c κs =
-    let found = c .before .before .before .before .before .before .before .before .before .next in
-    let given = c .before .before .before .before .before .before .before .before .before .before .before .before .before .before .before .pre in
-    (one-record true New (found .ensures) refl (omega (arith, found .kept, given .0)) (c .before .before .before .past .ensures) (c .before .before .before .before .enum-told .given .1) (omega arith), omega (arith, given .1))
+begin-requires c κs = (this (c .before .before .before), omega (arith, c .before .before .before .before .before .before .before .before .before .before .before .before .before .before .before .pre .1))
 
 same-length-3 : tie.Need-same-length-3
 same-length-3 c = search needs
@@ -52,7 +66,9 @@ same-length-4 : tie.Need-same-length-4
 same-length-4 c = search needs
 
 returns-2 : tie.Need-returns-2
-returns-2 c = omega (arith, c .before .before .before .before .begin .ensures .line .room, c .before .before .before .before .before .before .before .before .before .before .before .before .before .before .before .before .before .before .before .before .pre .1)
+returns-2 c =
+    let begun = c .before .before .before .before .begin in
+    (omega (arith, begun .ensures .line .room, c .before .before .before .before .before .before .before .before .before .before .before .before .before .before .before .before .before .before .before .before .pre .1), run-refused _ _ (this (c .before .before .before .before .before .before .before .before)) (begun .ensures .number) (c .if1 .taken) (begun .ensures .line .puts))
 
 serve-requires : tie.Need-serve-requires
 serve-requires c κs =
@@ -83,7 +99,17 @@ same-length-7 : tie.Need-same-length-7
 same-length-7 c = search needs
 
 returns-3 : tie.Need-returns-3
-returns-3 c = search needs
+returns-3 c =
+    let served = c .before .before .before .before .before .before .serve .ensures in
+    let begun = c .before .before .before .before .before .before .before .before .before .before .before .before .before .before .before .begin in
+    let k = c .before .before .before .before .before .before .before .before .before .before .before .before .before .before .before .before .before .before .before in
+    let found = k .before .before .before .before .before .before .next in
+    let taken = length-taken (found .result .stream) (k .past .result) (found .last .1 .0) (found .ensures .same .fits) (found .ensures .inside)
+    (omega (arith, found .kept, k .before .before .before .before .before .before .before .before .before .before .before .before .pre .0)) (k .past .ensures) in (
+      served .0,
+      run-made _ _ _ _ _ (this k) (begun .ensures .number) (c .before .before .before .before .before .before .before .before .before .before .before .if1 .left) (begun .ensures .next)
+          (omega (arith, taken, k .past .ensures .offset, found .ensures .same .place)) (begun .ensures .line .puts) (served .1),
+    )
 
 pub run-spec : {M : Type 1} → statement M
 run-spec =

@@ -1,28 +1,46 @@
--- `bench::serve::serve` is safe and ends, and calls each record's function with what it asks. The invariant: the three buffers keep their lengths, the
--- device is valid, and the stream's places lie in the buffers. The measure is what is left of the offsets. Assumes nothing.
-use mathlib.Core.Path.{_≡_}
-use Prim.Native.Nat.{_-_, _<_}
+-- `bench::serve::serve` meets its contract. The invariant: the three buffers keep their lengths, the device is valid, the stream's places lie in the
+-- buffers, and where the program is now is a run away from where it began. The measure is what is left of the offsets. Assumes nothing.
+use mathlib.Core.Path.{_≡_, refl}
+use Prim.Native.Nat.{_-_, _<_, _≤_}
 use native.Mathlib.Omega.{arith}
 use borrow.Author.Needs.{needs}
+use Rattle.bench.specs.Runs.{machine-of, Steps}
+use Rattle.bench.specs.Runs.Steps.{stay}
+use Rattle.bench.specs.Records.{least, OneRecord}
+use Rattle.bench.specs.declared.records.Mark.{Mark}
+use Rattle.bench.proofs.CallLaws.{line-stays}
+use Rattle.bench.proofs.RunLaws.{step-read, step-room, step-serve, run-ends, run-far}
 use borrow.Author.Tests.{ne-eqb}
 use mathlib.Core.Bool.{false}
 use Rattle.bench.specs.declared.records.Mark.the-variants.{Command, Event, Media, Line}
 use Rattle.bench.proofs.RecordLaws.{one-record, none-served}
-use Rattle.mailbox.specs.State.{ValidDevice}
+use Rattle.mailbox.specs.State.{ValidDevice, state-of}
 use Rattle.bench.specs.Stream.{Fits}
-use lib.ListN.{length}
+use lib.ListN.{length, take, drop}
 use Rattle.bench.proofs.serve.serve.Statement.{statement}
 use Rattle.bench.proofs.serve.serve.Tie as tie
 
 abbrev Inv-loop : tie.InvT-loop
 Inv-loop input₀ out₀ reply₀ device₀ s₀ input out reply device s =
     (length input ≡ 65536) × (length out ≡ 65536) × (length reply ≡ 2048) × ValidDevice device × Fits s × (0 < s .offset)
+    × Steps (machine-of (state-of device₀) s₀ input₀ out₀) (machine-of (state-of device) s input out)
 
 abbrev μ-loop : tie.MeasureT-loop
 μ-loop input₀ out₀ reply₀ device₀ s₀ input out reply device s = 9223372036854775808 - s .offset
 
+-- the bytes of a record of mark m, taken out of the input buffer, are that record
+this :
+    (k : tie.After-past Inv-loop μ-loop) (m : Mark) → k .before .before .before .before .before .before .next .result .mark ≡ m → 2 ≤ least m
+    → OneRecord false m (take (k .past .result .at - k .before .before .before .before .before .before .next .result .stream .at) (drop (k .before .before .before .before .before .before .next .result .stream .at) (k .before .before .before .before .before .before .next .last .1 .0)))
+this k m e two =
+    let l = k .before .before .before .before .before .before .before .before .before .before .before .loop in
+    let found = k .before .before .before .before .before .before .next in
+    one-record false m (found .ensures) (ne-eqb (l .s .offset) 0 (λ e. omega (arith, e, l .inv .5))) (omega (arith, found .kept, l .inv .0)) (k .past .ensures) e two
+
 loop-holds : tie.Need-loop-holds Inv-loop μ-loop
-loop-holds c = search needs
+loop-holds c =
+    let given = c .before .before .before .pre in
+    (given .3, given .4, given .5, given .0, given .1, given .2, stay)
 
 next-requires : tie.Need-next-requires Inv-loop μ-loop
 next-requires c κs = search needs
@@ -52,7 +70,7 @@ command-requires c κs =
     let found = k .before .before .before .before .before .before .next in (
       record {
         valid = l .inv .3;
-        this = one-record false Command (found .ensures) (ne-eqb (l .s .offset) 0 (λ e. omega (arith, e, l .inv .5))) (omega (arith, found .kept, l .inv .0)) (k .past .ensures) (c .before .before .before .before .enum-told .given .1) (omega arith);
+        this = this k Command (c .before .before .before .before .enum-told .given .1) (omega arith);
         room = omega (arith, k .before .make-room .ensures .1, l .inv .1);
       },
       l .inv .2,
@@ -77,7 +95,7 @@ event-requires c κs =
     let found = k .before .before .before .before .before .before .next in
     record {
       valid = l .inv .3;
-      this = one-record false Event (found .ensures) (ne-eqb (l .s .offset) 0 (λ e. omega (arith, e, l .inv .5))) (omega (arith, found .kept, l .inv .0)) (k .past .ensures) (c .before .before .before .enum-told2 .given .1) (omega arith);
+      this = this k Event (c .before .before .before .enum-told2 .given .1) (omega arith);
       room = omega (arith, k .before .make-room .ensures .1, l .inv .1);
     }
 
@@ -100,7 +118,7 @@ media-requires c κs =
     let found = k .before .before .before .before .before .before .next in
     record {
       valid = l .inv .3;
-      this = one-record false Media (found .ensures) (ne-eqb (l .s .offset) 0 (λ e. omega (arith, e, l .inv .5))) (omega (arith, found .kept, l .inv .0)) (k .past .ensures) (c .before .before .before .enum-told3 .given .1) (omega arith);
+      this = this k Media (c .before .before .before .enum-told3 .given .1) (omega arith);
       room = omega (arith, k .before .make-room .ensures .1, l .inv .1);
     }
 
@@ -123,7 +141,7 @@ line-requires c κs =
     let found = k .before .before .before .before .before .before .next in
     record {
       valid = l .inv .3;
-      this = one-record false Line (found .ensures) (ne-eqb (l .s .offset) 0 (λ e. omega (arith, e, l .inv .5))) (omega (arith, found .kept, l .inv .0)) (k .past .ensures) (c .before .before .before .enum-told4 .given .1) (omega arith);
+      this = this k Line (c .before .before .before .enum-told4 .given .1) (omega arith);
       room = omega (arith, k .before .make-room .ensures .1, l .inv .1);
     }
 
@@ -142,7 +160,18 @@ same-length-3 : tie.Need-same-length-3 Inv-loop μ-loop
 same-length-3 c = search needs
 
 returns : tie.Need-returns Inv-loop μ-loop
-returns c = omega (arith, c .before .before .stop .ensures .room, c .before .before .before .before .before .before .before .before .before .before .before .before .before .before .before .before .loop .inv .1)
+returns c =
+    let k = c .before .before .before .before .before in
+    let l = k .before .before .before .before .before .before .before .before .before .before .before .loop in
+    let found = k .before .before .before .before .before .before .next in
+    let here = found .result .stream in
+    let room = step-room here (found .last .1 .0) (l .out) _ (step-read (l .s) here (l .out) (l .inv .6) (found .ensures .same)) (k .before .make-room .ensures .0) in
+    let told = c .before .before .stop .ensures in (
+      omega (arith, told .room, l .inv .1),
+      run-ends (found .result .mark) _ here (found .last .1 .0) room (found .ensures .mark) (ne-eqb (l .s .offset) 0 (λ e. omega (arith, e, l .inv .5)))
+          (omega (arith, found .ensures .same .place, k .before .before .before .before .before .before .before .before .before .if1 .taken)) (none-served (found .result .mark) (c .before .before .before .before .match .keys5)) (told .puts)
+          (omega (arith, k .before .make-room .ensures .1, l .inv .1)),
+    )
 
 loop-less : tie.Need-loop-less Inv-loop μ-loop
 loop-less c =
@@ -156,6 +185,8 @@ loop-again c =
     let k = c .before .before .before .before .before .before .before .before .before .before .before .before in
     let l = k .before .before .before .before .before .before .before .before .before .before .before .loop in
     let found = k .before .before .before .before .before .before .next in
+    let here = found .result .stream in
+    let room = step-room here (found .last .1 .0) (l .out) _ (step-read (l .s) here (l .out) (l .inv .6) (found .ensures .same)) (k .before .make-room .ensures .0) in
     let p = k .past .ensures in (
       omega (arith, found .kept, l .inv .0),
       omega (arith, c .before .before .before .before .before .command .kept .1 .1 .1 .0, l .inv .1),
@@ -167,6 +198,8 @@ loop-again c =
         output = omega (arith, c .before .before .before .before .before .command .ensures .line .room, l .inv .1);
       },
       omega (arith, p .offset, found .ensures .same .place, l .inv .5),
+      step-serve Command here (k .past .result) (found .last .1 .0) room (this k Command (c .before .before .before .before .before .before .before .before .before .before .enum-told .given .1) (omega arith)) refl (found .ensures .same .fits)
+          (found .ensures .inside) (omega (arith, found .kept, l .inv .0)) p (c .before .before .before .before .before .command .ensures .next) (c .before .before .before .before .before .command .ensures .line .puts) (omega (arith, k .before .make-room .ensures .1, l .inv .1)),
     )
 
 loop-less-2 : tie.Need-loop-less-2 Inv-loop μ-loop
@@ -181,6 +214,8 @@ loop-again-2 c =
     let k = c .before .before .before .before .before .before .before .before .before in
     let l = k .before .before .before .before .before .before .before .before .before .before .before .loop in
     let found = k .before .before .before .before .before .before .next in
+    let here = found .result .stream in
+    let room = step-room here (found .last .1 .0) (l .out) _ (step-read (l .s) here (l .out) (l .inv .6) (found .ensures .same)) (k .before .make-room .ensures .0) in
     let p = k .past .ensures in (
       omega (arith, found .kept, l .inv .0),
       omega (arith, c .before .before .before .event .kept .1 .1 .0, l .inv .1),
@@ -192,6 +227,8 @@ loop-again-2 c =
         output = omega (arith, c .before .before .before .event .ensures .line .room, l .inv .1);
       },
       omega (arith, p .offset, found .ensures .same .place, l .inv .5),
+      step-serve Event here (k .past .result) (found .last .1 .0) room (this k Event (c .before .before .before .before .before .before .before .enum-told2 .given .1) (omega arith)) refl (found .ensures .same .fits)
+          (found .ensures .inside) (omega (arith, found .kept, l .inv .0)) p (c .before .before .before .event .ensures .next) (c .before .before .before .event .ensures .line .puts) (omega (arith, k .before .make-room .ensures .1, l .inv .1)),
     )
 
 loop-less-3 : tie.Need-loop-less-3 Inv-loop μ-loop
@@ -206,6 +243,8 @@ loop-again-3 c =
     let k = c .before .before .before .before .before .before .before .before .before in
     let l = k .before .before .before .before .before .before .before .before .before .before .before .loop in
     let found = k .before .before .before .before .before .before .next in
+    let here = found .result .stream in
+    let room = step-room here (found .last .1 .0) (l .out) _ (step-read (l .s) here (l .out) (l .inv .6) (found .ensures .same)) (k .before .make-room .ensures .0) in
     let p = k .past .ensures in (
       omega (arith, found .kept, l .inv .0),
       omega (arith, c .before .before .before .media .kept .1 .1 .0, l .inv .1),
@@ -217,6 +256,8 @@ loop-again-3 c =
         output = omega (arith, c .before .before .before .media .ensures .line .room, l .inv .1);
       },
       omega (arith, p .offset, found .ensures .same .place, l .inv .5),
+      step-serve Media here (k .past .result) (found .last .1 .0) room (this k Media (c .before .before .before .before .before .before .before .enum-told3 .given .1) (omega arith)) refl (found .ensures .same .fits)
+          (found .ensures .inside) (omega (arith, found .kept, l .inv .0)) p (c .before .before .before .media .ensures .next) (c .before .before .before .media .ensures .line .puts) (omega (arith, k .before .make-room .ensures .1, l .inv .1)),
     )
 
 loop-less-4 : tie.Need-loop-less-4 Inv-loop μ-loop
@@ -231,6 +272,8 @@ loop-again-4 c =
     let k = c .before .before .before .before .before .before .before .before in
     let l = k .before .before .before .before .before .before .before .before .before .before .before .loop in
     let found = k .before .before .before .before .before .before .next in
+    let here = found .result .stream in
+    let room = step-room here (found .last .1 .0) (l .out) _ (step-read (l .s) here (l .out) (l .inv .6) (found .ensures .same)) (k .before .make-room .ensures .0) in
     let p = k .past .ensures in (
       omega (arith, found .kept, l .inv .0),
       omega (arith, c .before .before .line .kept .1 .1 .0, l .inv .1),
@@ -242,6 +285,8 @@ loop-again-4 c =
         output = omega (arith, c .before .before .line .ensures .room, l .inv .1);
       },
       omega (arith, p .offset, found .ensures .same .place, l .inv .5),
+      step-serve Line here (k .past .result) (found .last .1 .0) room (this k Line (c .before .before .before .before .before .before .enum-told4 .given .1) (omega arith)) refl (found .ensures .same .fits)
+          (found .ensures .inside) (omega (arith, found .kept, l .inv .0)) p (line-stays _ (state-of (l .device))) (c .before .before .line .ensures .puts) (omega (arith, k .before .make-room .ensures .1, l .inv .1)),
     )
 
 same-length-4 : tie.Need-same-length-4 Inv-loop μ-loop
@@ -254,7 +299,9 @@ same-length-6 : tie.Need-same-length-6 Inv-loop μ-loop
 same-length-6 c = search needs
 
 returns-2 : tie.Need-returns-2 Inv-loop μ-loop
-returns-2 c = search needs
+returns-2 c =
+    let l = c .before .before .loop in
+    (l .inv .4 .output, run-far (state-of (l .device)) (l .s) (l .input) (l .out) (l .inv .6) (c .if1 .left))
 
 pub serve-spec : {M : Type 1} → statement M
 serve-spec =
