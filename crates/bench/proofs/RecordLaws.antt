@@ -2,15 +2,15 @@
 -- after those that were there do not change what they read as. Assumes nothing.
 use mathlib.Core.Path.{_≡_, refl, sym, ap, subst, _∙_}
 use mathlib.Core.Bool.{Bool, true, false, _&&_, cond}
-use mathlib.Core.Logic.{⊎-elim}
-use mathlib.Core.List.{List, [], _∷_}
+use mathlib.Core.Logic.{⊎-elim, _⊎_, inl, inr}
+use mathlib.Core.List.{List, [], _∷_, _++_, append-nil}
 use Prim.Native.Nat.{ℕ, _+_, _*_, _≤_, _<_, _-_}
 use native.Mathlib.Nat.{add-zero}
 use native.Mathlib.Omega.{arith}
 use lib.Dec.{eqb, leb}
-use lib.ListN.{length, getD, take, drop, length-take}
+use lib.ListN.{length, getD, take, drop, length-take, length-append}
 use borrow.Author.Tests.{eqb-true, eqb-false, eq-eqb, ne-eqb, le-leb, lt-leb, lt-ltb, le-ltb}
-use lib.Seq.{take-take, getD-take}
+use lib.Seq.{take-take, getD-take, take-length}
 use native.Mathlib.Decide.{decLt}
 use types.Run.{OneOf}
 use denote.Enum.Declared.{tagOf}
@@ -23,7 +23,7 @@ use Rattle.bench.specs.declared.records.Mark.the-variants.{New, Command,
 use Rattle.bench.specs.Stream.{count-left, left, Continues, Past}
 use Rattle.bench.specs.Records.{Reading, least, spells, mark-of, bad, whole, read-command, read-marked, read-record, OneRecord, served}
 use Rattle.bench.specs.Contracts.{Finds}
-use Rattle.bench.proofs.StreamLaws.{continues-then, length-left, field-left, getD-left, field-front, getD-front}
+use Rattle.bench.proofs.StreamLaws.{continues-then, length-left, field-left, getD-left, field-front, getD-front, front-more}
 
 -- ---- the mark: two letters are tested as one number
 
@@ -127,81 +127,114 @@ read-other End l h = refl
 
 -- ---- what is found at a place
 
-pub finds-bad : {read : List ℕ → Reading} {s here : Stream} {before after : List ℕ} (r : Found) → r ≡ record { mark = Bad; size = 0; stream = here } → Continues s here before after
-    → read (left here after) ≡ bad → Finds read s r before after
-finds-bad {read} {s} {here} {before} {after} r this same e =
-    subst (λ (f : Found). Finds read s f before after) (sym this)
-    (record {
-      mark = sym (ap (λ (x : Reading). x .mark) e);
-      size = sym (ap (λ (x : Reading). x .size) e);
-      same = same;
-      inside = omega arith;
-      enough = omega arith;
-      most = omega arith;
-    })
+module _ {read : List ℕ → Reading} {s here : Stream} {before after : List ℕ} (same : Continues s here before after) where
+  -- no record, and more bytes would not change that, or none can come
+  pub finds-bad : (r : Found) → r ≡ record { mark = Bad; size = 0; stream = here } → read (left here after) ≡ bad
+      → (here .ended ≡ true) ⊎ ((more : List ℕ) → read (left here after ++ more) ≡ bad) → Finds read s r before after
+  finds-bad r this e sure =
+      subst (λ (f : Found). Finds read s f before after) (sym this)
+      (record {
+        mark = sym (ap (λ (x : Reading). x .mark) e);
+        size = sym (ap (λ (x : Reading). x .size) e);
+        sure = ⊎-elim (λ ended. inl ended) (λ f. inr (λ more. f more ∙ sym e)) sure;
+        same = same;
+        inside = omega arith;
+        enough = omega arith;
+        most = omega arith;
+      })
 
-pub finds-found : {read : List ℕ → Reading} (m : Mark) (size : ℕ) {s here : Stream} {before after : List ℕ} → Continues s here before after
-    → read (left here after) ≡ record { mark = m; size = size } → size ≤ count-left here → least m ≤ size → size ≤ 2062
-    → Finds read s (record { mark = m; size = size; stream = here }) before after
-finds-found m size same e inside enough most =
-    record {
-      mark = sym (ap (λ (x : Reading). x .mark) e);
-      size = sym (ap (λ (x : Reading). x .size) e);
-      same = same;
-      inside = inside;
-      enough = enough;
-      most = most;
-    }
+  pub finds-found : (m : Mark) (size : ℕ) → read (left here after) ≡ record { mark = m; size = size }
+      → (here .ended ≡ true) ⊎ ((more : List ℕ) → read (left here after ++ more) ≡ record { mark = m; size = size }) → size ≤ count-left here → least m ≤ size → size ≤ 2062
+      → Finds read s (record { mark = m; size = size; stream = here }) before after
+  finds-found m size e sure inside enough most =
+      record {
+        mark = sym (ap (λ (x : Reading). x .mark) e);
+        size = sym (ap (λ (x : Reading). x .size) e);
+        sure = ⊎-elim (λ ended. inl ended) (λ f. inr (λ more. f more ∙ sym e)) sure;
+        same = same;
+        inside = inside;
+        enough = enough;
+        most = most;
+      }
 
+-- the same found by another way to read that agrees whatever comes after
 finds-then : {read read' : List ℕ → Reading} {s here : Stream} {r : Found} {before between after : List ℕ} → Continues s here before between
-    → Finds read here r between after → read' (left (r .stream) after) ≡ read (left (r .stream) after) → Finds read' s r before after
-finds-then here found e =
+    → Finds read here r between after → ((more : List ℕ) → read' (left (r .stream) after ++ more) ≡ read (left (r .stream) after ++ more)) → Finds read' s r before after
+finds-then {read} {read'} {s} {here} {r} {before} {between} {after} here' found agree =
     record {
-      mark = found .mark ∙ sym (ap (λ (x : Reading). x .mark) e);
-      size = found .size ∙ sym (ap (λ (x : Reading). x .size) e);
-      same = continues-then here (found .same);
+      mark = found .mark ∙ sym (ap (λ (x : Reading). x .mark) now);
+      size = found .size ∙ sym (ap (λ (x : Reading). x .size) now);
+      sure = ⊎-elim (λ ended. inl ended) (λ f. inr (λ more. agree more ∙ f more ∙ sym now)) (found .sure);
+      same = continues-then here' (found .same);
       inside = found .inside;
       enough = found .enough;
       most = found .most;
     }
+  where
+    rest : List ℕ
+    rest = left (r .stream) after
+
+    now : read' rest ≡ read rest
+    now = ap read' (sym (append-nil rest)) ∙ agree [] ∙ ap read (append-nil rest)
 
 -- a command whose fixed part is there
 pub command-found : (n : ℕ) {s here : Stream} {r : Found} {before between after : List ℕ} → Continues s here before between → Finds (whole Command (14 + n)) here r between after
     → n ≡ field between (here .at + 12) 2 → n ≤ 2048 → 14 ≤ count-left here → length between ≡ 65536 → length after ≡ 65536 → Finds read-command s r before after
 command-found n {s} {here} {r} {before} {between} {after} came found e few enough long long' =
+    finds-then came found
+    (λ more.
     let rest : List ℕ = left (r .stream) after in
-    let more = found .same .more in
     let many : length rest ≡ count-left (r .stream) = length-left (r .stream) after (found .same .fits) long' in
-    let payload : field rest 12 2 ≡ n =
-    field-front (count-left here) 12 2 rest (left here between) (found .same .kept) (omega arith) (omega arith)
+    let all : length (rest ++ more) ≡ length rest + length more = length-append rest more in
+    let front : take (count-left here) (rest ++ more) ≡ left here between = front-more (count-left here) rest more (left here between) (found .same .kept) (omega (arith, found .same .more)) in
+    let payload : field (rest ++ more) 12 2 ≡ n =
+    field-front (count-left here) 12 2 (rest ++ more) (left here between) front (omega arith) (omega (arith, found .same .more))
     ∙ field-left here between (came .fits) long 12 2 (omega arith)
     ∙ sym e in
-    finds-then came found (command-sized rest n (omega arith) payload few)
+    command-sized (rest ++ more) n (omega (arith, found .same .more)) payload few)
+
+-- a command that is too long stays so
+pub long-more : (l more : List ℕ) → 14 ≤ length l → 2048 < field l 12 2 → read-command (l ++ more) ≡ bad
+long-more l more enough long =
+    let all : length (l ++ more) ≡ length l + length more = length-append l more in
+    let same : field (l ++ more) 12 2 ≡ field l 12 2 = field-front (length l) 12 2 (l ++ more) l (front-more (length l) l more l (take-length l) (omega arith)) (omega arith) (omega arith) in
+    command-long (l ++ more) (omega arith) (omega arith)
+
+-- a record that is there stays so
+pub there-more : (m : Mark) (size : ℕ) (l more : List ℕ) → size ≤ length l → whole m size (l ++ more) ≡ record { mark = m; size = size }
+there-more m size l more h = whole-there m size (l ++ more) (omega (arith, length-append l more))
 
 -- a record whose mark is there
 module _ {s here : Stream} (r : Found) {before between after : List ℕ} (m : Mark) (came : Continues s here before between)
     (e : m ≡ mark-of (eqb (here .offset) 0) (getD between (here .at) 0) (getD between (here .at + 1) 0)) (two : 2 ≤ count-left here)
     (long : length between ≡ 65536) (long' : length after ≡ 65536) where
-  marked : Continues here (r .stream) between after → read-record (eqb (s .offset) 0) (left (r .stream) after) ≡ read-marked m (left (r .stream) after)
-  marked same =
+  marked : Continues here (r .stream) between after → (more : List ℕ)
+      → read-record (eqb (s .offset) 0) (left (r .stream) after ++ more) ≡ read-marked m (left (r .stream) after ++ more)
+  marked same more =
       let rest : List ℕ = left (r .stream) after in
       let many : length rest ≡ count-left (r .stream) = length-left (r .stream) after (same .fits) long' in
-      let letter : (i : ℕ) → i < 2 → getD rest i 0 ≡ getD between (here .at + i) 0 =
-      λ i h. getD-front (count-left here) i rest (left here between) (same .kept) (omega arith) ∙ getD-left here between (came .fits) long i (omega arith) in
-      let zeroth : getD rest 0 0 ≡ getD between (here .at) 0 = letter 0 (omega arith) ∙ ap (λ (i : ℕ). getD between i 0) (add-zero (here .at)) in
-      read-two (eqb (s .offset) 0) rest (omega (arith, same .more))
-      ∙ (λ i. read-marked (mark-of (eqb (sym (came .place) i) 0) (zeroth i) (letter 1 (omega arith) i)) rest)
-      ∙ ap (λ (k : Mark). read-marked k rest) (sym e)
+      let all : length (rest ++ more) ≡ length rest + length more = length-append rest more in
+      let front : take (count-left here) (rest ++ more) ≡ left here between = front-more (count-left here) rest more (left here between) (same .kept) (omega (arith, same .more)) in
+      let letter : (i : ℕ) → i < 2 → getD (rest ++ more) i 0 ≡ getD between (here .at + i) 0 =
+      λ i h. getD-front (count-left here) i (rest ++ more) (left here between) front (omega arith) ∙ getD-left here between (came .fits) long i (omega arith) in
+      let zeroth : getD (rest ++ more) 0 0 ≡ getD between (here .at) 0 = letter 0 (omega arith) ∙ ap (λ (i : ℕ). getD between i 0) (add-zero (here .at)) in
+      read-two (eqb (s .offset) 0) (rest ++ more) (omega (arith, same .more))
+      ∙ (λ i. read-marked (mark-of (eqb (sym (came .place) i) 0) (zeroth i) (letter 1 (omega arith) i)) (rest ++ more))
+      ∙ ap (λ (k : Mark). read-marked k (rest ++ more)) (sym e)
 
   pub next-command : m ≡ Command → Finds read-command here r between after → Finds (read-record (eqb (s .offset) 0)) s r before after
   unfolding read-marked
-  next-command this found = finds-then came found (marked (found .same) ∙ ap (λ (k : Mark). read-marked k (left (r .stream) after)) this)
+  next-command this found =
+      finds-then came found (λ more. marked (found .same) more ∙ ap (λ (k : Mark). read-marked k (left (r .stream) after ++ more)) this)
 
   pub next-other : (size : ℕ) → OneOf (0 ∷ 2 ∷ 3 ∷ 4 ∷ 5 ∷ 6 ∷ []) (tagOf the-type m) → size ≡ least m → Finds (whole m size) here r between after
       → Finds (read-record (eqb (s .offset) 0)) s r before after
   next-other size other sized found =
       finds-then came found
-      (marked (found .same) ∙ read-other m (left (r .stream) after) other ∙ ap (λ (k : ℕ). whole m k (left (r .stream) after)) (sym sized))
+      (λ more.
+      marked (found .same) more
+      ∙ read-other m (left (r .stream) after ++ more) other
+      ∙ ap (λ (k : ℕ). whole m k (left (r .stream) after ++ more)) (sym sized))
 
 -- ---- a record found, taken out of the bytes left: its bytes read as the same record
 

@@ -68,7 +68,7 @@ pub step-serve : (mark : Mark) (here p : Stream) (input : List ℕ) {m : Machine
     → OneRecord false mark (take (p .at - here .at) (drop (here .at) input)) → served mark ≡ true → Fits here → size ≤ count-left here → length input ≡ 65536 → Past here size p
     → d' ≡ serve-record mark d (take (p .at - here .at) (drop (here .at) input)) .next
     → Puts used (serve-record mark d (take (p .at - here .at) (drop (here .at) input)) .line) out out' used' → used ≤ length out
-    → Steps m (machine-of d' (record { at = p .at; end = p .end; offset = p .offset; used = used' }) input out')
+    → Steps m (machine-of d' (record { at = p .at; end = p .end; offset = p .offset; used = used'; ended = p .ended }) input out')
 unfolding part
 step-serve mark here p input {m} {d} {d'} {out} {out'} {used} {used'} {size} h this some fits inside long past next put room =
     subst (Steps m)
@@ -76,10 +76,10 @@ step-serve mark here p input {m} {d} {d'} {out} {out'} {used} {used'} {size} h t
     record {
       device = sym next i;
       offset = place i;
-      left = left (record { at = p .at; end = p .end; offset = p .offset; used = used' }) input;
+      left = left (record { at = p .at; end = p .end; offset = p .offset; used = used'; ended = p .ended }) input;
       unwritten = sym (text-after put room) i;
     })
-    (serve mark (take (p .at - here .at) (drop (here .at) input)) (left (record { at = p .at; end = p .end; offset = p .offset; used = used' }) input) h split this some)
+    (serve mark (take (p .at - here .at) (drop (here .at) input)) (left (record { at = p .at; end = p .end; offset = p .offset; used = used'; ended = p .ended }) input) h split this some)
   where
     taken : length (take (p .at - here .at) (drop (here .at) input)) ≡ size
     taken = length-taken here p input fits inside long past

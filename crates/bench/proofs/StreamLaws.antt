@@ -1,6 +1,7 @@
 -- The bytes of the input that are left, as more is read: moved to the front, kept by a read, and the first of those that are left then.
 -- Assumes nothing.
 use mathlib.Core.Path.{_≡_, refl, sym, ap, ap₂, _∙_}
+use mathlib.Core.Bool.{Bool}
 use mathlib.Core.Logic.{_⊎_, inl, inr, ⊎-elim}
 use mathlib.Core.List.{List, [], _∷_, _++_}
 use Prim.Native.Nat.{ℕ, _+_, _-_, _≤_, _<_}
@@ -57,6 +58,10 @@ field-front n i k l front e h fits =
 pub getD-front : (n i : ℕ) (l front : List ℕ) → take n l ≡ front → i < n → getD l i 0 ≡ getD front i 0
 getD-front n i l front e h = sym (getD-take n l i 0 h) ∙ ap (λ (x : List ℕ). getD x i 0) e
 
+-- the first elements stay so whatever comes after
+pub front-more : (n : ℕ) (l more front : List ℕ) → take n l ≡ front → n ≤ length l → take n (l ++ more) ≡ front
+front-more n l more front e fits = take-append-le n l more fits ∙ e
+
 -- how many bytes are left, and a field and a byte of them, read out of the buffer
 module _ (s : Stream) (input : List ℕ) (fits : Fits s) (long : length input ≡ 65536) where
   pub length-left : length (left s input) ≡ count-left s
@@ -84,11 +89,11 @@ continues-here s input fits long =
     }
 
 -- the bytes left moved to the front, and more read after them
-pub continues-front : (s : Stream) (e : ℕ) (before between after : List ℕ) → Fits s → count-left s ≤ e → e ≤ 65536
+pub continues-front : (s : Stream) (e : ℕ) (ended : Bool) (before between after : List ℕ) → Fits s → count-left s ≤ e → e ≤ 65536
     → take (count-left s) between ≡ left s before → take (count-left s) after ≡ take (count-left s) between
-    → Continues s (record { at = 0; end = e; offset = s .offset; used = 0 }) before after
+    → Continues s (record { at = 0; end = e; offset = s .offset; used = 0; ended = ended }) before after
 unfolding part
-continues-front s e before between after fits more room moved kept =
+continues-front s e ended before between after fits more room moved kept =
     record {
       fits = record { order = omega arith; input = room; output = omega arith };
       place = refl;

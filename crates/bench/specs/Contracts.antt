@@ -2,8 +2,9 @@
 -- Assumes nothing.
 use Prim.Native.Nat.{ℕ, _+_, _≤_}
 use mathlib.Core.Path.{_≡_}
-use mathlib.Core.Bool.{false}
-use mathlib.Core.List.{List}
+use mathlib.Core.Bool.{true, false}
+use mathlib.Core.Logic.{_⊎_}
+use mathlib.Core.List.{List, _++_}
 use lib.ListN.{length}
 use Rattle.wire.specs.Wire.{splice}
 use Rattle.mailbox.specs.State.{ValidDevice, state-of}
@@ -46,10 +47,12 @@ pub record Begins (o : Printed) (code : ℕ) (r : Begun) (before after : List �
   pub next : state-of (r .device) ≡ o .next
   pub valid : ValidDevice (r .device)
 
--- what is found at a stream's place: what the bytes left there read as; a record lies whole in the input buffer
+-- what is found at a stream's place: what the bytes left there read as, and would read as with any more bytes after them unless the input has ended; a
+-- record lies whole in the input buffer
 pub record Finds (read : List ℕ → Reading) (s : Stream) (r : Found) (before after : List ℕ) : Type 0 where
   pub mark : r .mark ≡ read (left (r .stream) after) .mark
   pub size : r .size ≡ read (left (r .stream) after) .size
+  pub sure : (r .stream .ended ≡ true) ⊎ ((more : List ℕ) → read (left (r .stream) after ++ more) ≡ read (left (r .stream) after))
   pub same : Continues s (r .stream) before after
   pub inside : r .size ≤ count-left (r .stream)
   pub enough : least (r .mark) ≤ r .size

@@ -1,13 +1,14 @@
 -- The two buffers' places, the bytes of the input that are not used yet, and how one place of the input follows another. Assumes nothing.
-use Prim.Native.Nat.{ℕ, _+_, _-_, _≤_}
+use Prim.Native.Nat.{ℕ, _+_, _-_, _≤_, _<_}
 use mathlib.Core.Path.{_≡_}
-use mathlib.Core.Bool.{cond}
+use mathlib.Core.Bool.{true, cond}
 use mathlib.Core.Logic.{_⊎_}
 use mathlib.Core.List.{List}
 use lib.Dec.{leb}
 use lib.ListN.{length, take}
 use Rattle.wire.specs.Wire.{part}
 use Rattle.bench.specs.declared.stream.Stream.{Stream}
+use Rattle.bench.specs.declared.stream.Filled.{Filled}
 
 -- the bytes not used are in the buffer; so are the bytes not written
 pub record Fits (s : Stream) : Type 0 where
@@ -28,6 +29,11 @@ pub record Reads (end : ℕ) (before after : List ℕ) (r : ℕ) : Type 0 where
   pub fits : r ≤ length before
   pub kept : take end after ≡ take end before
 
+-- n bytes wanted in the buffer: fewer are there only where the input has ended
+pub record Fills (n end : ℕ) (before after : List ℕ) (r : Filled) : Type 0 where
+  pub reads : Reads end before after (r .end)
+  pub short : r .end < n → r .ended ≡ true
+
 -- the same place of the input, where perhaps more was read: the bytes that were left are the first of those that are left, and the output buffer
 -- was written whole or not at all
 pub record Continues (s r : Stream) (before after : List ℕ) : Type 0 where
@@ -37,9 +43,10 @@ pub record Continues (s r : Stream) (before after : List ℕ) : Type 0 where
   pub kept : take (count-left s) (left r after) ≡ left s before
   pub output : (r .used ≡ s .used) ⊎ (r .used ≡ 0)
 
--- n bytes wanted: where they are there, nothing is read
+-- n bytes wanted: where they are there, nothing is read; fewer are left only where the input has ended
 pub record Wants (n : ℕ) (s r : Stream) (before after : List ℕ) : Type 0 where
   pub same : Continues s r before after
+  pub short : count-left r < n → r .ended ≡ true
   pub idle : n ≤ count-left s → r ≡ s
 
 -- the place past a record of so many bytes
@@ -48,6 +55,7 @@ pub record Past (s : Stream) (size : ℕ) (r : Stream) : Type 0 where
   pub end : r .end ≡ s .end
   pub offset : r .offset ≡ s .offset + size
   pub used : r .used ≡ s .used
+  pub ended : r .ended ≡ s .ended
 
 -- the bytes of the output buffer not written, where room was made for a line of at most 4,200 bytes
 abbrev pub with-room : ℕ → ℕ

@@ -228,6 +228,7 @@ pub(crate) fn run(input: &mut [u8], out: &mut [u8], reply: &mut [u8]) -> usize
         end: 0,
         offset: 0,
         used: 0,
+        ended: false,
     };
     let found = start.next(input, out);
     let mark = found.mark;

@@ -6,15 +6,22 @@ ghost use mathlib.Core.Path.{_≡_};
 ghost use Prim.Native.Nat.{_+_, _^_, _≤_, _<_};
 ghost use lib.ListN.{length, take};
 ghost use Rattle.wire.specs.Wire.{part};
-ghost use Rattle.bench.specs.Stream.{Fits, Reads, Wants, Past, with-room};
+ghost use Rattle.bench.specs.Stream.{Fits, Reads, Fills, Wants, Past, with-room};
 
 // The bytes at..end of the input buffer are not used yet; `at` lies `offset` bytes into the input; the first `used` bytes of the output buffer
-// are not written yet.
+// are not written yet; `ended` says that a read brought no byte.
 pub struct Stream {
     pub at: usize,
     pub end: usize,
     pub offset: u64,
     pub used: usize,
+    pub ended: bool,
+}
+
+// What was read into the input buffer: its new end, and whether the last read brought no byte.
+pub struct Filled {
+    pub end: usize,
+    pub ended: bool,
 }
 
 // Writes the first n bytes of the output buffer. Where that fails there is nobody to tell.
@@ -57,20 +64,26 @@ fn read_once(input: &mut [u8], end: usize) -> usize
     io::count(got, &input[end..])
 }
 
-// Reads into the buffer from index end on until it holds n bytes or the input ends: the new end.
-fn read_until(input: &mut [u8], end: usize, n: usize) -> usize
+// Reads into the buffer from index end on until it holds n bytes or the input ends.
+fn read_until(input: &mut [u8], end: usize, n: usize) -> Filled
     requires { ⌜ (end ≤ length (now input)) × (n ≤ length (now input)) ⌝ }
-    ensures { λ r. ⌜ Reads end (now (input .entry)) (now (input .exit)) r ⌝ }
+    ensures { λ r. ⌜ Fills n end (now (input .entry)) (now (input .exit)) r ⌝ }
 {
     let mut e = end;
     while e < n {
         let got = read_once(input, e);
         if got == 0 {
-            break;
+            return Filled {
+                end: e,
+                ended: true,
+            };
         }
         e += got;
     }
-    e
+    Filled {
+        end: e,
+        ended: false,
+    }
 }
 
 impl Stream {
@@ -84,6 +97,7 @@ impl Stream {
             end: self.end,
             offset: self.offset + size as u64,
             used: self.used,
+            ended: self.ended,
         }
     }
 
@@ -100,12 +114,13 @@ impl Stream {
         let used = self.used;
         flush(out, used);
         move_down(input, at, left);
-        let end = read_until(input, left, n);
+        let filled = read_until(input, left, n);
         Stream {
             at: 0,
-            end,
+            end: filled.end,
             offset: self.offset,
             used: 0,
+            ended: filled.ended,
         }
     }
 }

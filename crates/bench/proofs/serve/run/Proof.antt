@@ -107,7 +107,7 @@ returns-3 c =
     let taken = length-taken (found .result .stream) (k .past .result) (found .last .1 .0) (found .ensures .same .fits) (found .ensures .inside)
     (omega (arith, found .kept, k .before .before .before .before .before .before .before .before .before .before .before .before .pre .0)) (k .past .ensures) in (
       served .0,
-      run-made _ _ _ _ _ (this k) (begun .ensures .number) (c .before .before .before .before .before .before .before .before .before .before .before .if1 .left) (begun .ensures .next)
+      run-made _ _ _ (record { at = k .past .result .at; end = k .past .result .end; offset = k .past .result .offset; used = begun .result .used; ended = k .past .result .ended }) _ (this k) (begun .ensures .number) (c .before .before .before .before .before .before .before .before .before .before .before .if1 .left) (begun .ensures .next)
           (omega (arith, taken, k .past .ensures .offset, found .ensures .same .place)) (begun .ensures .line .puts) (served .1),
     )
 

@@ -151,13 +151,19 @@ stop-requires c κs =
     (none-served (k .before .before .before .before .before .before .next .result .mark) (c .before .match .keys5), omega (arith, k .before .make-room .ensures .1, k .before .before .before .before .before .before .before .before .before .before .before .loop .inv .1))
 
 same-length : tie.Need-same-length Inv-loop μ-loop
-same-length c = search needs
+same-length c =
+    let k = c .before .before .before .before .before in
+    omega (arith, k .before .before .before .before .before .before .next .kept, k .before .before .before .before .before .before .before .before .before .before .before .loop .inv .0, k .before .before .before .before .before .before .before .before .before .before .before .before .before .before .before .pre .3)
 
 same-length-2 : tie.Need-same-length-2 Inv-loop μ-loop
-same-length-2 c = search needs
+same-length-2 c =
+    let k = c .before .before .before .before .before in
+    omega (arith, c .before .before .stop .kept, k .before .before .before .before .before .before .before .before .before .before .before .loop .inv .1, k .before .before .before .before .before .before .before .before .before .before .before .before .before .before .before .pre .4)
 
 same-length-3 : tie.Need-same-length-3 Inv-loop μ-loop
-same-length-3 c = search needs
+same-length-3 c =
+    let k = c .before .before .before .before .before in
+    omega (arith, k .before .before .before .before .before .before .before .before .before .before .before .loop .inv .2, k .before .before .before .before .before .before .before .before .before .before .before .before .before .before .before .pre .5)
 
 returns : tie.Need-returns Inv-loop μ-loop
 returns c =

@@ -3,6 +3,7 @@
 use mathlib.Core.Path.{_≡_}
 use Prim.Native.Nat.{_-_}
 use borrow.Author.Needs.{needs}
+use mathlib.Core.Path.{refl}
 use native.Mathlib.Omega.{arith}
 use Rattle.bench.proofs.StreamLaws.{reads-then}
 use lib.ListN.{length}
@@ -38,16 +39,16 @@ same-length : tie.Need-same-length Inv-loop μ-loop
 same-length c = search needs
 
 returns : tie.Need-returns Inv-loop μ-loop
-returns c = search needs
+returns c =
+    let l = c .before .before .before .before .before .before .loop in
+    let got = c .before .before .before .read-once in
+    record { reads = reads-then _ (l .inv .1) (got .ensures) (l .inv .0) (omega arith) (l .inv .1 .fits); short = λ _. refl }
 
 same-length-2 : tie.Need-same-length-2 Inv-loop μ-loop
 same-length-2 c = search needs
 
 returns-2 : tie.Need-returns-2 Inv-loop μ-loop
-returns-2 c =
-    let l = c .before .before .before .before .before .before .loop in
-    let got = c .before .before .before .read-once in
-    reads-then _ (l .inv .1) (got .ensures) (l .inv .0) (omega arith) (l .inv .1 .fits)
+returns-2 c = record { reads = c .before .loop .inv .1; short = λ less. absurd (omega (arith, less, c .loop-test .left)) }
 
 pub read-until-spec : {M : Type 1} → statement M
 read-until-spec =
@@ -57,10 +58,10 @@ read-until-spec =
     μ-loop
     loop-holds
     read-once-requires
+    same-length
+    returns
     add-e
     loop-less
     loop-again
-    same-length
-    returns
     same-length-2
     returns-2)

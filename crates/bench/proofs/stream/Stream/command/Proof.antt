@@ -2,8 +2,12 @@
 use mathlib.Core.Path.{_≡_}
 use native.Mathlib.Omega.{arith}
 use borrow.Author.Needs.{needs}
+use mathlib.Core.Logic.{inl, inr}
+use Prim.Native.Nat.{_≤_, _<_}
+use Rattle.wire.specs.Wire.{field}
+use Rattle.bench.specs.Stream.{left}
 use Rattle.bench.proofs.StreamLaws.{length-left, field-left}
-use Rattle.bench.proofs.RecordLaws.{finds-bad, command-cut, command-long, command-found}
+use Rattle.bench.proofs.RecordLaws.{finds-bad, command-cut, command-long, command-found, long-more}
 use lib.ListN.{length}
 use Rattle.bench.proofs.stream.Stream.command.Statement.{statement}
 use Rattle.bench.proofs.stream.Stream.command.Tie as tie
@@ -25,7 +29,7 @@ returns c =
     let w = c .before .before .before .before .before .want in
     let s = c .before .before .before .before .before .before .before .before .before in
     let many = length-left (w .result) (w .last .1 .0) (w .ensures .same .fits) (omega (arith, w .kept, s .pre .1)) in
-    finds-bad _ (c .bad .ensures) (w .ensures .same) (command-cut _ (omega (arith, many, c .before .if1 .taken)))
+    finds-bad (w .ensures .same) _ (c .bad .ensures) (command-cut _ (omega (arith, many, c .before .if1 .taken))) (inl (w .ensures .short (c .before .if1 .taken)))
 
 add-get : tie.Need-add-get
 add-get c = search needs
@@ -46,8 +50,9 @@ returns-2 c =
     let long : length (w .last .1 .0) ≡ 65536 = omega (arith, w .kept, s .pre .1) in
     let many = length-left (w .result) (w .last .1 .0) (w .ensures .same .fits) long in
     let payload = field-left (w .result) (w .last .1 .0) (w .ensures .same .fits) long 12 2 (omega (arith, c .before .before .before .before .if1 .left)) in
-    finds-bad _ (c .bad2 .ensures) (w .ensures .same)
-    (command-long _ (omega (arith, many, c .before .before .before .before .if1 .left)) (omega (arith, payload, c .before .before .get .ensures .value, c .before .if2 .taken)))
+    let enough : 14 ≤ length (left (w .result) (w .last .1 .0)) = omega (arith, many, c .before .before .before .before .if1 .left) in
+    let much : 2048 < field (left (w .result) (w .last .1 .0)) 12 2 = omega (arith, payload, c .before .before .get .ensures .value, c .before .if2 .taken) in
+    finds-bad (w .ensures .same) _ (c .bad2 .ensures) (command-long _ enough much) (inr (λ more. long-more _ more enough much))
 
 add-whole : tie.Need-add-whole
 add-whole c = search needs

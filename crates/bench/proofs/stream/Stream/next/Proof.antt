@@ -1,6 +1,7 @@
 -- `bench::stream::Stream::next` meets its contract: the mark stays as it was read, whatever is read after it. Assumes nothing.
 use native.Mathlib.Omega.{arith}
 use borrow.Author.Needs.{needs}
+use mathlib.Core.Logic.{inl}
 use Rattle.bench.specs.declared.records.Mark.the-variants.{End}
 use Rattle.bench.proofs.Laws.{least-small}
 use Rattle.bench.proofs.StreamLaws.{length-left}
@@ -22,7 +23,7 @@ returns c =
     let w = c .before .before .before .before .want in
     let s = c .before .before .before .before .before .before .before .before in
     let many = length-left (w .result) (w .last .1 .0) (w .ensures .same .fits) (omega (arith, w .kept, s .pre .1)) in
-    finds-found End 0 (w .ensures .same) (read-none _ _ (omega (arith, many, c .if1 .taken))) (omega arith) (omega arith) (omega arith)
+    finds-found (w .ensures .same) End 0 (read-none _ _ (omega (arith, many, c .if1 .taken))) (inl (w .ensures .short (omega (arith, c .if1 .taken)))) (omega arith) (omega arith) (omega arith)
 
 bad-requires : tie.Need-bad-requires
 bad-requires c κs = search needs
@@ -35,7 +36,7 @@ returns-2 c =
     let w = c .before .before .before .before .before .before .want in
     let s = c .before .before .before .before .before .before .before .before .before .before in
     let many = length-left (w .result) (w .last .1 .0) (w .ensures .same .fits) (omega (arith, w .kept, s .pre .1)) in
-    finds-bad _ (c .bad .ensures) (w .ensures .same) (read-one _ _ (omega (arith, many, c .before .if2 .taken)))
+    finds-bad (w .ensures .same) _ (c .bad .ensures) (read-one _ _ (omega (arith, many, c .before .if2 .taken))) (inl (w .ensures .short (omega (arith, c .before .if2 .taken))))
 
 slice-read-mark-of : tie.Need-slice-read-mark-of
 slice-read-mark-of c = search needs

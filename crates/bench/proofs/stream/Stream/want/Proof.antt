@@ -12,7 +12,11 @@ sub-left c = search needs
 returns : tie.Need-returns
 returns c =
     let s = c .before .before .before .before in
-    record { same = continues-here (s .args .self) _ (s .pre .0) (s .pre .2); idle = λ _. refl }
+    record {
+      same = continues-here (s .args .self) _ (s .pre .0) (s .pre .2);
+      short = λ less. absurd (omega (arith, less, c .if1 .taken));
+      idle = λ _. refl;
+    }
 
 flush-requires : tie.Need-flush-requires
 flush-requires c κs = search needs
@@ -31,8 +35,12 @@ returns-2 c =
     let s = c .before .before .before .before .before .before .before .before .before .before .before .before .before in
     let moved = c .before .before .before .before .before .before .move-down in
     let got = c .before .before .read-until in
+    let reads = got .ensures .reads in
     record {
-      same = continues-front (s .args .self) (got .result) _ _ _ (s .pre .0) (got .ensures .more) (omega (arith, got .ensures .fits, moved .kept .0, s .pre .2)) (moved .ensures) (got .ensures .kept);
+      same =
+          continues-front (s .args .self) (got .result .end) (got .result .ended) _ _ _ (s .pre .0) (reads .more)
+          (omega (arith, reads .fits, moved .kept .0, s .pre .2)) (moved .ensures) (reads .kept);
+      short = λ less. got .ensures .short (omega (arith, less));
       idle = λ there. absurd (omega (arith, there, c .before .before .before .before .before .before .before .before .before .if1 .left));
     }
 
