@@ -1,7 +1,7 @@
 -- The turns of the loop as steps of a run: what was read, what room was made, a record served, and the end. Assumes nothing.
 use mathlib.Core.Path.{_≡_, sym, ap, subst, _∙_}
 use mathlib.Core.Bool.{Bool, true, false, cond}
-use mathlib.Core.Logic.{⊎-elim}
+use mathlib.Core.Logic.{_⊎_, ⊎-elim}
 use mathlib.Core.List.{List, [], _∷_, _++_, append-nil}
 use Prim.Native.Nat.{ℕ, _+_, _-_, _≤_, _<_}
 use native.Mathlib.Omega.{arith}
@@ -17,7 +17,7 @@ use Rattle.bench.specs.Stream.{Fits, count-left, left, Continues, Past, 
 use Rattle.bench.specs.Records.{OneRecord, served, read-record}
 use Rattle.bench.specs.Lines.{last-line}
 use Rattle.bench.specs.Calls.{new-call, first-record, serve-record}
-use Rattle.bench.specs.Runs.{Machine, machine-of, Steps, Ends, Runs}
+use Rattle.bench.specs.Runs.{Machine, machine-of, Steps, Final, Ends, Runs}
 use Rattle.bench.specs.Runs.Steps.{read, write, serve}
 use Rattle.bench.specs.Runs.Runs.{unmade, refused, made}
 use types.Run.{OneOf}
@@ -31,8 +31,8 @@ pub step-read : (s r : Stream) (out : List ℕ) {m : Machine} {d : DeviceState} 
     → Steps m (machine-of d r input' out)
 step-read s r out {m} {d} {input} {input'} h c =
     ⊎-elim
-    (λ e. subst (Steps m) (λ i. record { device = d; offset = sym (c .place) i; left = sym all i; unwritten = take (sym e i) out }) (read extra h))
-    (λ e. subst (Steps m) (λ i. record { device = d; offset = sym (c .place) i; left = sym all i; unwritten = ap (λ (k : ℕ). take k out) (sym e) i }) (write (read extra h)))
+    (λ e. subst (Steps m) (λ i. record { device = d; offset = sym (c .place) i; left = sym all i; ended = r .ended; unwritten = take (sym e i) out }) (read extra (r .ended) h))
+    (λ e. subst (Steps m) (λ i. record { device = d; offset = sym (c .place) i; left = sym all i; ended = r .ended; unwritten = ap (λ (k : ℕ). take k out) (sym e) i }) (write (read extra (r .ended) h)))
     (c .output)
   where
     extra : List ℕ
@@ -43,12 +43,12 @@ step-read s r out {m} {d} {input} {input'} h c =
 
 -- room was made, and what was printed perhaps written
 pub step-room : (s : Stream) (input out : List ℕ) (used : ℕ) {m : Machine} {d : DeviceState} → Steps m (machine-of d s input out) → used ≡ with-room (s .used)
-    → Steps m (record { device = d; offset = s .offset; left = left s input; unwritten = take used out })
+    → Steps m (record { device = d; offset = s .offset; left = left s input; ended = s .ended; unwritten = take used out })
 step-room s input out used {m} {d} h e = either (leb (s .used) 61336) e
   where
-    either : (t : Bool) → used ≡ cond t (s .used) 0 → Steps m (record { device = d; offset = s .offset; left = left s input; unwritten = take used out })
-    either true e = subst (Steps m) (λ i. record { device = d; offset = s .offset; left = left s input; unwritten = take (sym e i) out }) h
-    either false e = subst (Steps m) (λ i. record { device = d; offset = s .offset; left = left s input; unwritten = take (sym e i) out }) (write h)
+    either : (t : Bool) → used ≡ cond t (s .used) 0 → Steps m (record { device = d; offset = s .offset; left = left s input; ended = s .ended; unwritten = take used out })
+    either true e = subst (Steps m) (λ i. record { device = d; offset = s .offset; left = left s input; ended = s .ended; unwritten = take (sym e i) out }) h
+    either false e = subst (Steps m) (λ i. record { device = d; offset = s .offset; left = left s input; ended = s .ended; unwritten = take (sym e i) out }) (write h)
 
 -- text put after what is not written yet
 pub text-after : {used r : ℕ} {text out out' : List ℕ} → Puts used text out out' r → used ≤ length out → take r out' ≡ take used out ++ text
@@ -64,7 +64,7 @@ length-taken here p input fits inside long past = rw (length-take, length-drop) 
 
 -- a record served
 pub step-serve : (mark : Mark) (here p : Stream) (input : List ℕ) {m : Machine} {d d' : DeviceState} {out out' : List ℕ} {used used' size : ℕ}
-    → Steps m (record { device = d; offset = here .offset; left = left here input; unwritten = take used out })
+    → Steps m (record { device = d; offset = here .offset; left = left here input; ended = here .ended; unwritten = take used out })
     → OneRecord false mark (take (p .at - here .at) (drop (here .at) input)) → served mark ≡ true → Fits here → size ≤ count-left here → length input ≡ 65536 → Past here size p
     → d' ≡ serve-record mark d (take (p .at - here .at) (drop (here .at) input)) .next
     → Puts used (serve-record mark d (take (p .at - here .at) (drop (here .at) input)) .line) out out' used' → used ≤ length out
@@ -77,6 +77,7 @@ step-serve mark here p input {m} {d} {d'} {out} {out'} {used} {used'} {size} h t
       device = sym next i;
       offset = place i;
       left = left (record { at = p .at; end = p .end; offset = p .offset; used = used'; ended = p .ended }) input;
+      ended = sym (past .ended) i;
       unwritten = sym (text-after put room) i;
     })
     (serve mark (take (p .at - here .at) (drop (here .at) input)) (left (record { at = p .at; end = p .end; offset = p .offset; used = used'; ended = p .ended }) input) h split this some)
@@ -102,14 +103,16 @@ step-serve mark here p input {m} {d} {d'} {out} {out'} {used} {used'} {size} h t
 
 -- the end: at bytes that are no record to serve, or at an offset that no input reaches
 pub run-ends : (mark : Mark) (first : Bool) (here : Stream) (input : List ℕ) {m : Machine} {d : DeviceState} {out out' : List ℕ} {used r : ℕ}
-    → Steps m (record { device = d; offset = here .offset; left = left here input; unwritten = take used out })
-    → mark ≡ read-record first (left here input) .mark → first ≡ false → here .offset < 9223372036854775808 → served mark ≡ false
+    → Steps m (record { device = d; offset = here .offset; left = left here input; ended = here .ended; unwritten = take used out })
+    → mark ≡ read-record first (left here input) .mark → first ≡ false → (here .ended ≡ true) ⊎ ((more : List ℕ) → read-record first (left here input ++ more) ≡ read-record first (left here input))
+    → here .offset < 9223372036854775808 → served mark ≡ false
     → Puts used (last-line mark (here .offset)) out out' r → used ≤ length out → Ends m r out'
-run-ends mark first here input {m} {d} {out} {out'} {used} {r} h e later near none put room =
+run-ends mark first here input {m} {d} {out} {out'} {used} {r} h e later sure near none put room =
     record {
-      last = record { device = d; offset = here .offset; left = left here input; unwritten = take used out };
+      last = record { device = d; offset = here .offset; left = left here input; ended = here .ended; unwritten = take used out };
       steps = h;
       none = λ _. ap served (sym same) ∙ none;
+      final = λ _. subst (λ (t : Bool). Final t (here .ended) (left here input)) later (record { final = sure });
       text = text-after put room ∙ ap (λ (l : List ℕ). take used out ++ l)
           (ap (λ (k : Mark). last-line k (here .offset)) same ∙ ap (λ (t : Bool). cond t (last-line (read-record false (left here input) .mark) (here .offset)) []) (sym (lt-ltb (here .offset) 9223372036854775808 near)));
     }
@@ -123,6 +126,7 @@ run-far d s input out {m} h far =
       last = machine-of d s input out;
       steps = h;
       none = λ near. absurd (omega (arith, near, far));
+      final = λ near. absurd (omega (arith, near, far));
       text = sym (append-nil (take (s .used) out))
           ∙ ap (λ (l : List ℕ). take (s .used) out ++ l) (ap (λ (t : Bool). cond t (last-line (read-record false (left s input) .mark) (s .offset)) []) (sym (le-ltb (s .offset) 9223372036854775808 far)));
     }
@@ -134,13 +138,15 @@ after-new x h =
     (⊎-elim (λ e. omega arith) (⊎-elim (λ e. omega arith) (⊎-elim (λ e. omega arith) (⊎-elim (λ e. omega arith) (λ e. omega arith)))))
     h
 
-pub run-unmade : (m : Mark) (bytes : List ℕ) (offset : ℕ) {r : ℕ} {out out' : List ℕ} → m ≡ read-record true bytes .mark
+pub run-unmade : (m : Mark) (bytes : List ℕ) (ended : Bool) (offset : ℕ) {r : ℕ} {out out' : List ℕ} → m ≡ read-record true bytes .mark
+    → (ended ≡ true) ⊎ ((more : List ℕ) → read-record true (bytes ++ more) ≡ read-record true bytes)
     → OneOf (1 ∷ 2 ∷ 3 ∷ 4 ∷ 5 ∷ 6 ∷ []) (tagOf the-type m) → offset ≡ 0 → Puts 0 (last-line m offset) out out' r → Runs r out'
-run-unmade m bytes offset e other start put =
-    unmade bytes
+run-unmade m bytes ended offset e sure other start put =
+    unmade bytes ended
     (λ new.
     let tag : tagOf the-type m ≡ 0 = ap (tagOf the-type) (e ∙ new) in
     omega (arith, tag, after-new (tagOf the-type m) other))
+    (record { final = sure })
     (text-after put (omega arith) ∙ (λ i. last-line (e i) (start i)))
 
 pub run-refused : (first : List ℕ) (code : ℕ) {r : ℕ} {out out' : List ℕ} → OneRecord true New first → code ≡ new-call first .code → (code ≡ 0 → ⊥)
@@ -150,5 +156,5 @@ run-refused first code this number not put = refused first this (λ e. not (numb
 pub run-made : (first : List ℕ) (code : ℕ) (d : DeviceState) (s : Stream) (input : List ℕ) {r : ℕ} {out out' out'' : List ℕ} → OneRecord true New first → code ≡ new-call first .code
     → code ≡ 0 → d ≡ first-record first .next → s .offset ≡ length first → Puts 0 (first-record first .line) out out' (s .used) → Ends (machine-of d s input out') r out'' → Runs r out''
 run-made first code d s input {r} {out} {out'} {out''} this number zero next place put ends =
-    made first (left s input) this (sym number ∙ zero)
-    (subst (λ (m : Machine). Ends m r out'') (λ i. record { device = next i; offset = place i; left = left s input; unwritten = text-after put (omega arith) i }) ends)
+    made first (left s input) (s .ended) this (sym number ∙ zero)
+    (subst (λ (m : Machine). Ends m r out'') (λ i. record { device = next i; offset = place i; left = left s input; ended = s .ended; unwritten = text-after put (omega arith) i }) ends)

@@ -166,11 +166,10 @@ fn serve(made: Device, start: Stream, input: &mut [u8], out: &mut [u8], reply: &
     while s.offset < 9223372036854775808 {
         let found = s.next(input, out);
         let mark = found.mark;
-        let size = found.size;
         let here = found.stream;
         let used = stream::make_room(out, here.used);
         let at = here.at;
-        let mut rest = here.past(size);
+        let mut rest = here.past(found.size);
         let to = rest.at;
         match mark {
             Mark::Command => {
@@ -232,13 +231,12 @@ pub(crate) fn run(input: &mut [u8], out: &mut [u8], reply: &mut [u8]) -> usize
     };
     let found = start.next(input, out);
     let mark = found.mark;
-    let size = found.size;
     let here = found.stream;
     let Mark::New = mark else {
         return stop(mark, out, 0, here.offset);
     };
     let at = here.at;
-    let mut rest = here.past(size);
+    let mut rest = here.past(found.size);
     let to = rest.at;
     let begun = begin(&input[at..to], out);
     if begun.code != 0 {

@@ -33,7 +33,7 @@ returns c =
     let found = c .before .before .before .before .before .before .before .before .next in
     let told = c .before .before .stop .ensures in (
       omega (arith, told .room, c .before .before .before .before .before .before .before .before .before .before .before .before .before .before .pre .1),
-      run-unmade (found .result .mark) _ _ (found .ensures .mark) (c .before .before .before .before .match .keys2) (found .ensures .same .place) (told .puts),
+      run-unmade (found .result .mark) _ _ _ (found .ensures .mark) (found .ensures .sure) (c .before .before .before .before .match .keys2) (found .ensures .same .place) (told .puts),
     )
 
 past-requires : tie.Need-past-requires

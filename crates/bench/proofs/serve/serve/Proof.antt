@@ -174,7 +174,7 @@ returns c =
     let room = step-room here (found .last .1 .0) (l .out) _ (step-read (l .s) here (l .out) (l .inv .6) (found .ensures .same)) (k .before .make-room .ensures .0) in
     let told = c .before .before .stop .ensures in (
       omega (arith, told .room, l .inv .1),
-      run-ends (found .result .mark) _ here (found .last .1 .0) room (found .ensures .mark) (ne-eqb (l .s .offset) 0 (λ e. omega (arith, e, l .inv .5)))
+      run-ends (found .result .mark) _ here (found .last .1 .0) room (found .ensures .mark) (ne-eqb (l .s .offset) 0 (λ e. omega (arith, e, l .inv .5))) (found .ensures .sure)
           (omega (arith, found .ensures .same .place, k .before .before .before .before .before .before .before .before .before .if1 .taken)) (none-served (found .result .mark) (c .before .before .before .before .match .keys5)) (told .puts)
           (omega (arith, k .before .make-room .ensures .1, l .inv .1)),
     )
