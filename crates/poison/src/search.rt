@@ -2,7 +2,7 @@
 // so that the compiled loop has no jump that depends on the entries.
 ghost use mathlib.Core.Path.{_≡_};
 ghost use mathlib.Core.Bool.{cond};
-ghost use Prim.Native.Nat.{_+_, _≤_, _<_};
+ghost use Prim.Native.Nat.{_+_, _≤_};
 ghost use lib.Dec.{leb};
 ghost use Rattle.poison.specs.State.{capacity, runs-in, ValidRuns};
 ghost use Rattle.poison.specs.Search.{cover-at, place-of, Ascending, LastStart};
