@@ -8,3 +8,4 @@ mod StreamLaws
 mod RecordLaws
 mod RunLaws
 mod Trials
+mod Example

@@ -12,3 +12,5 @@ pub use Rattle.mailbox.proofs.Demand1.{refusal-unaltered, event-unalter
 pub use Rattle.mailbox.proofs.Addresses.{line-inside, range-ends}
 -- A media report that its checks do not refuse is of a type of three bits and of lines of the device.
 pub use Rattle.mailbox.proofs.DeviceAnswers.{media-zero}
+-- To unfold `rules` is to unfold every definition of a call: on a device that is written out it then computes.
+unfoldable pub use Rattle.mailbox.proofs.Computing.{rules}

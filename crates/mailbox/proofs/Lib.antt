@@ -11,4 +11,5 @@ pub mod EventAnswers
 pub mod ListAnswers
 pub mod DeviceAnswers
 pub mod Demand1
+pub mod Computing
 pub mod Laws

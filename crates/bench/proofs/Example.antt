@@ -1,0 +1,52 @@
+-- Document 01's example of the bench program, from the bytes of its input to the bytes of its output, by computation with the definitions that the
+-- contracts cite. Assumes nothing.
+use mathlib.Core.Path.{_≡_, refl}
+use mathlib.Core.Bool.{true, false, cond}
+use mathlib.Core.List.{List, [], _∷_, _++_}
+use Prim.Native.Nat.{ℕ, zero, suc, _+_}
+use lib.ListN.{length, take, drop, replicate}
+use Rattle.mailbox.specs.State.{DeviceState}
+use Rattle.mailbox.proofs.Laws.{rules}
+use Rattle.bench.specs.Text.{numeral, hex}
+use Rattle.bench.specs.Records.{served, mark-of, whole, read-command, read-marked, read-record}
+use Rattle.bench.specs.Lines.{new-line, command-line, unless-refused, event-line, pair-line, bad-line, last-line}
+use Rattle.bench.specs.Calls.{first-record, serve-record}
+
+-- what is printed from a place on, where at most n records come
+printed : ℕ → DeviceState → ℕ → List ℕ → List ℕ
+printed zero d offset l = []
+printed (suc n) d offset l =
+    let r = read-record false l in
+    let done = serve-record (r .mark) d (take (r .size) l) in
+    cond (served (r .mark)) (done .line ++ printed n (done .next) (offset + r .size) (drop (r .size) l)) (last-line (r .mark) offset)
+
+-- what is printed for an input that begins with NW
+program : ℕ → List ℕ → List ℕ
+program n l =
+    let first = take (read-record true l .size) l in
+    first-record first .line ++ printed n (first-record first .next) (length first) (drop (length first) l)
+
+-- "NW 1 0; MD time 0, address 128, 3 lines, type 2; CM time 0, 4302h, address 192, 64 zero bytes; LT 192; LT 128; CM time 0, 4300h, address 0, 16 lines"
+input : List ℕ
+input =
+    (78 ∷ 87 ∷ 1 ∷ 0 ∷ 0 ∷ 0 ∷ [])
+    ++ (77 ∷ 68 ∷ []) ++ replicate 8 0 ++ (128 ∷ []) ++ replicate 7 0 ++ (3 ∷ 0 ∷ 0 ∷ 0 ∷ 2 ∷ [])
+    ++ (67 ∷ 77 ∷ []) ++ replicate 8 0 ++ (2 ∷ 67 ∷ 72 ∷ 0 ∷ 192 ∷ []) ++ replicate 71 0
+    ++ (76 ∷ 84 ∷ 192 ∷ []) ++ replicate 7 0
+    ++ (76 ∷ 84 ∷ 128 ∷ []) ++ replicate 7 0
+    ++ (67 ∷ 77 ∷ []) ++ replicate 9 0 ++ (67 ∷ 16 ∷ []) ++ replicate 9 0 ++ (16 ∷ []) ++ replicate 7 0
+
+-- the lines of document 01
+output : List ℕ
+output =
+    (78 ∷ 87 ∷ 32 ∷ 48 ∷ 10 ∷ [])
+    ++ (77 ∷ 68 ∷ 32 ∷ 48 ∷ 32 ∷ 51 ∷ 32 ∷ 48 ∷ 10 ∷ [])
+    ++ (67 ∷ 77 ∷ 32 ∷ 48 ∷ 32 ∷ 48 ∷ 10 ∷ [])
+    ++ (76 ∷ 84 ∷ 32 ∷ 48 ∷ 32 ∷ 48 ∷ 32 ∷ 48 ∷ 10 ∷ [])
+    ++ (76 ∷ 84 ∷ 32 ∷ 48 ∷ 32 ∷ 49 ∷ 32 ∷ 50 ∷ 10 ∷ [])
+    ++ (67 ∷ 77 ∷ 32 ∷ 48 ∷ 32 ∷ 54 ∷ 52 ∷ 32 ∷ 48 ∷ 48 ∷ 48 ∷ 48 ∷ 48 ∷ 48 ∷ 48 ∷ 48 ∷ 48 ∷ 48 ∷ 48 ∷ 48 ∷ 48 ∷ 48 ∷ 48 ∷ 48 ∷ 48 ∷ 48 ∷ 48 ∷ 48 ∷ 48 ∷ 50 ∷ 48 ∷ 48 ∷ 48 ∷ 48 ∷ 48 ∷ 48 ∷ 48 ∷ 48 ∷ 48 ∷ 48 ∷ 48 ∷ 48 ∷ 48 ∷ 48 ∷ 48 ∷ 48 ∷ 48 ∷ 48 ∷ 48 ∷ 48 ∷ 48 ∷ 48 ∷ 48 ∷ 48 ∷ 48 ∷ 48 ∷ 48 ∷ 48 ∷ 48 ∷ 48 ∷ 48 ∷ 48 ∷ 48 ∷ 48 ∷ 48 ∷ 48 ∷ 48 ∷ 48 ∷ 48 ∷ 48 ∷ 48 ∷ 48 ∷ 56 ∷ 50 ∷ 48 ∷ 48 ∷ 48 ∷ 48 ∷ 48 ∷ 48 ∷ 48 ∷ 48 ∷ 48 ∷ 48 ∷ 48 ∷ 48 ∷ 48 ∷ 48 ∷ 48 ∷ 49 ∷ 48 ∷ 48 ∷ 48 ∷ 48 ∷ 48 ∷ 48 ∷ 48 ∷ 48 ∷ 48 ∷ 48 ∷ 48 ∷ 48 ∷ 48 ∷ 48 ∷ 48 ∷ 50 ∷ 48 ∷ 49 ∷ 48 ∷ 48 ∷ 48 ∷ 48 ∷ 48 ∷ 48 ∷ 48 ∷ 48 ∷ 48 ∷ 48 ∷ 48 ∷ 48 ∷ 48 ∷ 49 ∷ 48 ∷ 48 ∷ 48 ∷ 48 ∷ 48 ∷ 48 ∷ 48 ∷ 48 ∷ 48 ∷ 48 ∷ 48 ∷ 48 ∷ 48 ∷ 48 ∷ 10 ∷ [])
+
+-- the definitions give the document's output
+example : program 10 input ≡ output
+unfolding program printed input output rules numeral hex mark-of whole read-command read-marked read-record new-line command-line unless-refused event-line pair-line bad-line last-line first-record serve-record
+example = refl

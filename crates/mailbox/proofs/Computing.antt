@@ -1,0 +1,25 @@
+-- One name for the definitions of document 01's rules: where a proof says `unfolding rules`, calls on a device that is written out compute to their answers. It
+-- states nothing. Assumes nothing.
+use Rattle.wire.specs.Wire.{le, number, part, field, splice, same}
+use Rattle.poison.specs.Runs.{in-run, uncovered, keeps}
+use Rattle.poison.specs.Report.{with-drop, report-entries, reportable, lines-stored, lines-dropped}
+use Rattle.poison.specs.Range.{kept, sharing, record-bytes, records-bytes}
+use Rattle.events.specs.Log.{handle-of, bit}
+use Rattle.events.specs.Report as Event
+use Rattle.events.specs.Clear as Clear
+use Rattle.events.specs.Get as Get
+use Rattle.events.specs.Status as Status
+use Rattle.mailbox.specs.Commands.{commands, admission}
+use Rattle.mailbox.specs.Clock.{device-time, get-timestamp, set-timestamp}
+use Rattle.mailbox.specs.Policy.{setting, get-policy, set-policy}
+use Rattle.mailbox.specs.EffectsLog.{effects-log, effects-log-id, get-supported-logs, get-log}
+use Rattle.mailbox.specs.Identity.{version, limits, identify}
+use Rattle.mailbox.specs.EventCommands.{get-event-records, clear-event-records}
+use Rattle.mailbox.specs.PoisonCommands.{line-code, range-code, inject-poison, clear-poison, list-flags, list-header, list-reply, get-poison-list}
+use Rattle.mailbox.specs.Mailbox.{run-command, outcome}
+use Rattle.mailbox.specs.DeviceCalls as Device
+
+-- to unfold this is to unfold every definition of the line below
+unfoldable pub rules : Unit {0}
+unfolding outcome run-command commands admission le number part field splice same in-run uncovered keeps with-drop report-entries reportable lines-stored lines-dropped kept sharing record-bytes records-bytes handle-of bit Event.event-report Event.report-code Event.has-room Event.stamped Event.handle-after Event.reported Clear.clear-event-records Clear.clear-code Clear.mismatch Clear.clear-log-code Clear.without Clear.clear-size Clear.clear-log Clear.handles-at Clear.all-flag Get.get-code Get.flags Get.joined Get.replied Get.header Get.reply-bytes Get.get-event-records Status.status-bits Status.waiting Status.highest-from device-time get-timestamp set-timestamp setting get-policy set-policy effects-log effects-log-id get-supported-logs get-log version limits identify get-event-records clear-event-records line-code range-code inject-poison clear-poison list-flags list-header list-reply get-poison-list Device.make Device.event-report Device.media-report Device.media-code Device.line-test
+rules = tt
