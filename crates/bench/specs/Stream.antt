@@ -4,7 +4,7 @@ use mathlib.Core.Path.{_≡_}
 use mathlib.Core.Bool.{true, cond}
 use mathlib.Core.Logic.{_⊎_}
 use mathlib.Core.List.{List}
-use lib.Dec.{leb}
+use lib.Dec.{leb, ltb}
 use lib.ListN.{length, take}
 use Rattle.wire.specs.Wire.{part}
 use Rattle.bench.specs.declared.stream.Stream.{Stream}
@@ -29,10 +29,10 @@ pub record Reads (end : ℕ) (before after : List ℕ) (r : ℕ) : Type 0 where
   pub fits : r ≤ length before
   pub kept : take end after ≡ take end before
 
--- n bytes wanted in the buffer: fewer are there only where the input has ended
+-- n bytes wanted in the buffer: the input has ended where fewer are there
 pub record Fills (n end : ℕ) (before after : List ℕ) (r : Filled) : Type 0 where
   pub reads : Reads end before after (r .end)
-  pub short : r .end < n → r .ended ≡ true
+  pub ended : r .ended ≡ ltb (r .end) n
 
 -- the same place of the input, where perhaps more was read: the bytes that were left are the first of those that are left, and the output buffer
 -- was written whole or not at all

@@ -3,7 +3,8 @@
 use mathlib.Core.Path.{_≡_}
 use Prim.Native.Nat.{_-_}
 use borrow.Author.Needs.{needs}
-use mathlib.Core.Path.{refl}
+use borrow.Author.Tests.{lt-ltb, le-ltb}
+use mathlib.Core.Path.{sym}
 use native.Mathlib.Omega.{arith}
 use Rattle.bench.proofs.StreamLaws.{reads-then}
 use lib.ListN.{length}
@@ -42,13 +43,13 @@ returns : tie.Need-returns Inv-loop μ-loop
 returns c =
     let l = c .before .before .before .before .before .before .loop in
     let got = c .before .before .before .read-once in
-    record { reads = reads-then _ (l .inv .1) (got .ensures) (l .inv .0) (omega arith) (l .inv .1 .fits); short = λ _. refl }
+    record { reads = reads-then _ (l .inv .1) (got .ensures) (l .inv .0) (omega arith) (l .inv .1 .fits); ended = sym (lt-ltb (l .e) (c .before .before .before .before .before .before .before .before .args .n) (c .before .before .before .before .before .loop-test .taken)) }
 
 same-length-2 : tie.Need-same-length-2 Inv-loop μ-loop
 same-length-2 c = search needs
 
 returns-2 : tie.Need-returns-2 Inv-loop μ-loop
-returns-2 c = record { reads = c .before .loop .inv .1; short = λ less. absurd (omega (arith, less, c .loop-test .left)) }
+returns-2 c = record { reads = c .before .loop .inv .1; ended = sym (le-ltb _ _ (c .loop-test .left)) }
 
 pub read-until-spec : {M : Type 1} → statement M
 read-until-spec =

@@ -2,6 +2,8 @@
 use mathlib.Core.Path.{refl}
 use native.Mathlib.Omega.{arith}
 use borrow.Author.Needs.{needs}
+use borrow.Author.Tests.{lt-ltb}
+use mathlib.Core.Path.{_∙_}
 use Rattle.bench.proofs.StreamLaws.{continues-here, continues-front}
 use Rattle.bench.proofs.stream.Stream.want.Statement.{statement}
 use Rattle.bench.proofs.stream.Stream.want.Tie as tie
@@ -40,7 +42,7 @@ returns-2 c =
       same =
           continues-front (s .args .self) (got .result .end) (got .result .ended) _ _ _ (s .pre .0) (reads .more)
           (omega (arith, reads .fits, moved .kept .0, s .pre .2)) (moved .ensures) (reads .kept);
-      short = λ less. got .ensures .short (omega (arith, less));
+      short = λ less. got .ensures .ended ∙ lt-ltb (got .result .end) (s .args .n) (omega (arith, less));
       idle = λ there. absurd (omega (arith, there, c .before .before .before .before .before .before .before .before .before .if1 .left));
     }
 
