@@ -20,7 +20,7 @@ use Rattle.bench.specs.declared.stream.Stream.{Stream}
 use Rattle.bench.specs.declared.records.Found.{Found}
 use Rattle.bench.specs.declared.records.Mark.{Mark}
 use Rattle.bench.specs.declared.records.Mark.the-variants.{New, Command, Event, Media, Line, Bad, End}
-use Rattle.bench.specs.Stream.{count-left, left, Continues, Past}
+use Rattle.bench.specs.Stream.{Fits, unread, count-left, left, Continues, Past}
 use Rattle.bench.specs.Records.{Reading, least, spells, mark-of, bad, whole, read-command, read-marked, read-record, OneRecord, served}
 use Rattle.bench.specs.Contracts.{Finds}
 use Rattle.bench.proofs.StreamLaws.{continues-then, length-left, field-left, getD-left, field-front, getD-front, front-more}
@@ -341,3 +341,12 @@ first-served (a ∷ b ∷ rest) = either (spells New a b)
     either : (t : Bool) → served (read-marked (cond t New Bad) (a ∷ b ∷ rest) .mark) ≡ false
     either true = or-bad New 6 refl (leb 6 (length (a ∷ b ∷ rest)))
     either false = or-bad Bad 0 refl (leb 0 (length (a ∷ b ∷ rest)))
+
+-- ---- the start of the input
+
+pub unread-fits : {s : Stream} → s ≡ unread → Fits s
+unread-fits e = subst Fits (sym e) (record { order = omega arith; input = omega arith; output = omega arith })
+
+-- what is found there is what the bytes read as as the first record
+pub first-found : {s : Stream} {r : Found} {before after : List ℕ} → s ≡ unread → Finds (read-record (eqb (s .offset) 0)) s r before after → Finds (read-record true) unread r before after
+first-found {s} {r} {before} {after} e found = subst (λ (x : Stream). Finds (read-record (eqb (x .offset) 0)) x r before after) e found

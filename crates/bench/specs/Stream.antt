@@ -1,7 +1,7 @@
 -- The two buffers' places, the bytes of the input that are not used yet, and how one place of the input follows another. Assumes nothing.
 use Prim.Native.Nat.{ℕ, _+_, _-_, _≤_, _<_}
 use mathlib.Core.Path.{_≡_}
-use mathlib.Core.Bool.{true, cond}
+use mathlib.Core.Bool.{true, false, cond}
 use mathlib.Core.Logic.{_⊎_}
 use mathlib.Core.List.{List}
 use lib.Dec.{leb, ltb}
@@ -15,6 +15,10 @@ pub record Fits (s : Stream) : Type 0 where
   pub order : s .at ≤ s .end
   pub input : s .end ≤ 65536
   pub output : s .used ≤ 65536
+
+-- the stream before anything was read: no byte of either buffer counts
+abbrev pub unread : Stream
+unread = record { at = 0; end = 0; offset = 0; used = 0; ended = false }
 
 -- how many bytes of the input buffer are not used yet, and which
 abbrev pub count-left : Stream → ℕ

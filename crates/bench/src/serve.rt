@@ -222,13 +222,7 @@ pub(crate) fn run(input: &mut [u8], out: &mut [u8], reply: &mut [u8]) -> usize
     requires { ⌜ (length (now input) ≡ 65536) × (length (now out) ≡ 65536) × (length (now reply) ≡ 2048) ⌝ }
     ensures { λ r. ⌜ (r ≤ 65536) × Runs r (now (out .exit)) ⌝ }
 {
-    let start = Stream {
-        at: 0,
-        end: 0,
-        offset: 0,
-        used: 0,
-        ended: false,
-    };
+    let start = Stream::new();
     let found = start.next(input, out);
     let mark = found.mark;
     let here = found.stream;

@@ -6,7 +6,7 @@ ghost use mathlib.Core.Path.{_≡_};
 ghost use Prim.Native.Nat.{_+_, _^_, _≤_, _<_};
 ghost use lib.ListN.{length, take};
 ghost use Rattle.wire.specs.Wire.{part};
-ghost use Rattle.bench.specs.Stream.{Fits, Reads, Fills, Wants, Past, with-room};
+ghost use Rattle.bench.specs.Stream.{unread, Fits, Reads, Fills, Wants, Past, with-room};
 
 // The bytes at..end of the input buffer are not used yet; `at` lies `offset` bytes into the input; the first `used` bytes of the output buffer
 // are not written yet; `ended` says that a read brought no byte.
@@ -87,6 +87,19 @@ fn read_until(input: &mut [u8], end: usize, n: usize) -> Filled
 }
 
 impl Stream {
+    // The stream before anything was read.
+    pub(crate) fn new() -> Stream
+        ensures { λ r. ⌜ r ≡ unread ⌝ }
+    {
+        Stream {
+            at: 0,
+            end: 0,
+            offset: 0,
+            used: 0,
+            ended: false,
+        }
+    }
+
     // The stream past a record of so many bytes.
     pub(crate) fn past(self, size: usize) -> Stream
         requires { ⌜ (self .at + size ≤ 65536) × (self .offset + size < 2 ^ 64) ⌝ }
