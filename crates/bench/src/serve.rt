@@ -17,7 +17,7 @@ ghost use Prim.Native.Nat.{_+_, _≤_, _<_};
 ghost use lib.ListN.{length};
 ghost use Rattle.mailbox.specs.State.{ValidDevice, state-of};
 ghost use Rattle.mailbox.specs.Contracts.{Answered, EventDone, MediaDone, LineDone};
-ghost use Rattle.bench.specs.declared.records.Mark.the-variants.{New, Command, Event, Media, Line};
+ghost use Rattle.bench.specs.declared.records.Mark.the-variants.{New, Command, Media, Line};
 ghost use Rattle.bench.specs.Stream.{Fits};
 ghost use Rattle.bench.specs.Records.{OneRecord, served};
 ghost use Rattle.bench.specs.Lines.{last-line};
@@ -84,20 +84,6 @@ fn command(device: Device, bytes: &[u8], reply: &mut [u8], out: &mut [u8], used:
 {
     let answer = call_command(device, bytes, reply);
     let end = lines::put_command(out, used, answer.code, reply, answer.length);
-    let next = answer.device;
-    Served {
-        used: end,
-        device: next,
-    }
-}
-
-// EV: the return number, and whether the record was stored.
-fn event(device: Device, bytes: &[u8], out: &mut [u8], used: usize) -> Served
-    requires { ⌜ Ready Event device (now bytes) used (now out) ⌝ }
-    ensures { λ r. ⌜ Serves (serve-record Event (state-of device) (now (bytes .entry))) used r (now (out .entry)) (now (out .exit)) ⌝ }
-{
-    let answer = call_event(device, bytes);
-    let end = lines::put_event(out, used, answer.code, answer.stored);
     let next = answer.device;
     Served {
         used: end,
@@ -179,10 +165,10 @@ fn serve(made: Device, start: Stream, input: &mut [u8], out: &mut [u8], reply: &
                 rest.used = served.used;
             }
             Mark::Event => {
-                let served = event(device, &input[at..to], out, used);
-                let next = served.device;
+                let answer = call_event(device, &input[at..to]);
+                let next = answer.device;
                 device = next;
-                rest.used = served.used;
+                rest.used = lines::put_event(out, used, answer.code, answer.stored);
             }
             Mark::Media => {
                 let served = media(device, &input[at..to], out, used);

@@ -17,6 +17,7 @@ use Rattle.bench.proofs.RecordLaws.{one-record, none-served}
 use Rattle.mailbox.specs.State.{ValidDevice, state-of}
 use Rattle.bench.specs.Stream.{Fits}
 use lib.ListN.{length, take, drop}
+use Rattle.bench.proofs.CallLaws.{event-served}
 use Rattle.bench.proofs.serve.serve.Statement.{statement}
 use Rattle.bench.proofs.serve.serve.Tie as tie
 
@@ -79,25 +80,26 @@ command-requires c κs =
 enum-told-2 : tie.Need-enum-told-2 Inv-loop μ-loop
 enum-told-2 c = search needs
 
-sub-event : tie.Need-sub-event Inv-loop μ-loop
-sub-event c = search needs
+sub-call-event : tie.Need-sub-call-event Inv-loop μ-loop
+sub-call-event c = search needs
 
-part-event-start : tie.Need-part-event-start Inv-loop μ-loop
-part-event-start c = search needs
+part-call-event-start : tie.Need-part-call-event-start Inv-loop μ-loop
+part-call-event-start c = search needs
 
-part-event-end : tie.Need-part-event-end Inv-loop μ-loop
-part-event-end c = search needs
+part-call-event-end : tie.Need-part-call-event-end Inv-loop μ-loop
+part-call-event-end c = search needs
 
-event-requires : tie.Need-event-requires Inv-loop μ-loop
-event-requires c κs =
-    let k = c .before .before .before .before .before in
+call-event-requires : tie.Need-call-event-requires Inv-loop μ-loop
+call-event-requires c κs =
+    let k = c .before .before .before .before in
     let l = k .before .before .before .before .before .before .before .before .before .before .before .loop in
-    let found = k .before .before .before .before .before .before .next in
-    record {
-      valid = l .inv .3;
-      this = this k Event (c .before .before .before .enum-told2 .given .1) (omega arith);
-      room = omega (arith, k .before .make-room .ensures .1, l .inv .1);
-    }
+    (l .inv .3, this k Event (c .before .before .enum-told2 .given .1) (omega arith) .enough)
+
+put-event-requires : tie.Need-put-event-requires Inv-loop μ-loop
+put-event-requires c κs =
+    let k = c .before .before .before .before .before .before .before in
+    let l = k .before .before .before .before .before .before .before .before .before .before .before .loop in
+    omega (arith, k .before .make-room .ensures .1, l .inv .1)
 
 enum-told-3 : tie.Need-enum-told-3 Inv-loop μ-loop
 enum-told-3 c = search needs
@@ -210,31 +212,32 @@ loop-again c =
 
 loop-less-2 : tie.Need-loop-less-2 Inv-loop μ-loop
 loop-less-2 c =
-    let k = c .before .before .before .before .before .before .before .before .before in
+    let k = c .before .before .before .before .before .before .before .before .before .before in
     let found = k .before .before .before .before .before .before .next in
-    let enough = rw (c .before .before .before .before .before .before .before .enum-told2 .given .1) at (found .ensures .enough) in
+    let enough = rw (c .before .before .before .before .before .before .before .before .enum-told2 .given .1) at (found .ensures .enough) in
     omega (arith, enough, k .past .ensures .offset, found .ensures .same .place, k .before .before .before .before .before .before .before .before .before .if1 .taken)
 
 loop-again-2 : tie.Need-loop-again-2 Inv-loop μ-loop
 loop-again-2 c =
-    let k = c .before .before .before .before .before .before .before .before .before in
+    let k = c .before .before .before .before .before .before .before .before .before .before in
     let l = k .before .before .before .before .before .before .before .before .before .before .before .loop in
     let found = k .before .before .before .before .before .before .next in
     let here = found .result .stream in
     let room = step-room here (found .last .1 .0) (l .out) _ (step-read (l .s) here (l .out) (l .inv .6) (found .ensures .same)) (k .before .make-room .ensures .0) in
+    let served = event-served _ (c .before .before .before .before .before .call-event .ensures) (c .before .before .put-event .ensures) (omega (arith, k .before .make-room .ensures .1, l .inv .1)) in
     let p = k .past .ensures in (
       omega (arith, found .kept, l .inv .0),
-      omega (arith, c .before .before .before .event .kept .1 .1 .0, l .inv .1),
+      omega (arith, c .before .before .put-event .kept, l .inv .1),
       l .inv .2,
-      c .before .before .before .event .ensures .valid,
+      served .valid,
       record {
         order = omega (arith, p .at, p .end, found .ensures .inside, found .ensures .same .fits .order);
         input = omega (arith, p .end, found .ensures .same .fits .input);
-        output = omega (arith, c .before .before .before .event .ensures .line .room, l .inv .1);
+        output = omega (arith, served .line .room, l .inv .1);
       },
       omega (arith, p .offset, found .ensures .same .place, l .inv .5),
-      step-serve Event here (k .past .result) (found .last .1 .0) room (this k Event (c .before .before .before .before .before .before .before .enum-told2 .given .1) (omega arith)) refl (found .ensures .same .fits)
-          (found .ensures .inside) (omega (arith, found .kept, l .inv .0)) p (c .before .before .before .event .ensures .next) (c .before .before .before .event .ensures .line .puts) (omega (arith, k .before .make-room .ensures .1, l .inv .1)),
+      step-serve Event here (k .past .result) (found .last .1 .0) room (this k Event (c .before .before .before .before .before .before .before .before .enum-told2 .given .1) (omega arith)) refl (found .ensures .same .fits)
+          (found .ensures .inside) (omega (arith, found .kept, l .inv .0)) p (served .next) (served .line .puts) (omega (arith, k .before .make-room .ensures .1, l .inv .1)),
     )
 
 loop-less-3 : tie.Need-loop-less-3 Inv-loop μ-loop
@@ -325,10 +328,11 @@ serve-spec =
     part-command-end
     command-requires
     enum-told-2
-    sub-event
-    part-event-start
-    part-event-end
-    event-requires
+    sub-call-event
+    part-call-event-start
+    part-call-event-end
+    call-event-requires
+    put-event-requires
     enum-told-3
     sub-media
     part-media-start
