@@ -7,5 +7,6 @@ pub mod Ran
 pub mod KeptFirst
 pub mod Computing
 pub mod Builds
+pub mod Views
 pub mod SomeBuild
 pub mod Cases
