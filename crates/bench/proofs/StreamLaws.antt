@@ -8,9 +8,10 @@ use Prim.Native.Nat.{ℕ, _+_, _-_, _≤_, _<_}
 use native.Mathlib.Numerals.{add-one}
 use native.Mathlib.Omega.{arith}
 use lib.ListN.{length, take, drop, getD, set, length-take, length-drop, take-append-drop}
-use lib.Seq.{take-suc, take-suc-set, drop-set-lt, take-append-le, drop-append-le, take-all, take-take, drop-drop, getD-take, getD-drop}
+use lib.Seq.{take-suc, take-suc-set, drop-set-lt, take-append-le, take-all, take-take, drop-drop, getD-take, getD-drop}
 use Rattle.wire.specs.Wire.{number, part, field}
 use Rattle.wire.proofs.Laws.{length-part}
+use Rattle.wire.proofs.Splice.{part-front}
 use Rattle.bench.specs.declared.stream.Stream.{Stream}
 use Rattle.bench.specs.Stream.{Fits, count-left, left, Reads, Continues}
 
@@ -43,11 +44,7 @@ reads-then {end} {e} {r} {before} {between} {after} x p q long more room =
       kept = sym (take-take end e after (p .more)) ∙ ap (take end) (q .kept) ∙ take-take end e between (p .more) ∙ p .kept;
     }
 
--- a field of the first elements of a list
-part-front : (i k : ℕ) (a b : List ℕ) → i + k ≤ length a → part i k (a ++ b) ≡ part i k a
-unfolding part
-part-front i k a b h = ap (take k) (drop-append-le i a b (omega arith)) ∙ take-append-le k (drop i a) b (rw length-drop (omega arith))
-
+-- a field, and an element, of the first elements of a list
 pub field-front : (n i k : ℕ) (l front : List ℕ) → take n l ≡ front → i + k ≤ n → n ≤ length l → field l i k ≡ field front i k
 unfolding field
 field-front n i k l front e h fits =

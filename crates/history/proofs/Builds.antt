@@ -21,7 +21,7 @@ use Rattle.mailbox.specs.Mailbox.{outcome}
 use Rattle.mailbox.specs.DeviceCalls as Device
 use Rattle.wire.specs.Wire.{splice}
 use Rattle.history.specs.Builds.{all-bytes, Slice, MakeAsked, CommandAsked, EventAsked, MediaAsked, LineAsked, Build, Handed, by-make, by-command, by-event-report, by-media-report, Meets, RefusesAll, RefusesOne, every-make, every-command, every-event-report, every-media-report, every-line-test, reply-of, FixedReply, among, telling, TellsNothing, of-command, of-event-report, of-media-report, of-line-test, of-event-status, of-damage-total, ChangesNothing, changing, LeavesOne, KeepsFirst, of-media, of-events}
-use Rattle.history.proofs.Damage.{and-parts}
+use Rattle.wire.proofs.Laws.{and-parts}
 use Rattle.history.proofs.Computing.{rules}
 
 -- ---- arguments

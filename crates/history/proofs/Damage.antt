@@ -7,6 +7,7 @@ use borrow.Author.Tests.{eqb-true, le-leb, lt-ltb}
 use native.Mathlib.Omega.{arith}
 use lib.Dec.{eqb}
 use Rattle.wire.specs.Wire.{field}
+use Rattle.wire.proofs.Laws.{and-parts}
 use Rattle.poison.specs.Runs.{run, in-run}
 use Rattle.poison.specs.Paper.{Paper, blank-paper, paper-report, paper-inject, paper-clear}
 use Rattle.mailbox.specs.State.{DeviceState}
@@ -36,11 +37,6 @@ after-both d (x ∷ xs) ys = after-both (step d x .next) xs ys
 one-line : (k : ℕ) → in-run (run k 1) k ≡ true
 unfolding in-run
 one-line k = simp (le-leb k k (omega arith), lt-ltb k (k + 1) (omega arith))
-
--- two tests that hold together
-pub and-parts : (a b : Bool) → (a && b) ≡ true → (a ≡ true) × (b ≡ true)
-and-parts true b e = (refl, e)
-and-parts false b e = absurd (false≢true e)
 
 pub set-reported : (p : Paper) (c : Call) (code k : ℕ) → reports c code k ≡ true → write p c code .set k ≡ true
 unfolding write paper-inject paper-report

@@ -23,7 +23,8 @@ use Rattle.mailbox.specs.DeviceCalls as Device
 use Rattle.mailbox.specs.declared.device.Device.{Device}
 use Rattle.mailbox.proofs.Laws.{refusal, event-refusal, media-refusal}
 use Rattle.history.specs.Builds.{Build, Meets, RefusesAll, FixedReply, ChangesNothing, KeepsFirst, of-media}
-use Rattle.history.proofs.Views.{device-of, device-again, ValidView, view-valid, device-valid, either, make-leaves, command-leaves, event-leaves, media-leaves}
+use Rattle.wire.proofs.Laws.{either}
+use Rattle.history.proofs.Views.{device-of, device-again, ValidView, view-valid, device-valid, make-leaves, command-leaves, event-leaves, media-leaves}
 
 -- ---- the build that answers by the definitions
 -- the device handed back: on 0000h one that stands for the view that follows, else the very one given

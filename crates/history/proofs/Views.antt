@@ -2,7 +2,7 @@
 -- For proofs/SomeBuild.antt. Assumes nothing.
 use Prim.Native.Nat.{ℕ, zero, suc, _+_, _≤_, _<_}
 use mathlib.Core.Path.{_≡_, refl, ap}
-use mathlib.Core.Bool.{Bool, true, false, _&&_, cond}
+use mathlib.Core.Bool.{Bool, true, false, _&&_}
 use mathlib.Core.List.{List, [], _∷_, map}
 use native.Mathlib.Omega.{arith}
 use borrow.Author.Tests.{eqb-true, leb-true}
@@ -33,7 +33,7 @@ use Rattle.mailbox.specs.Mailbox.{run-command, outcome}
 use Rattle.mailbox.specs.DeviceCalls as Device
 use Rattle.mailbox.specs.declared.device.Device.{Device}
 use Rattle.mailbox.proofs.Laws.{line-inside, media-zero}
-use Rattle.history.proofs.Damage.{and-parts}
+use Rattle.wire.proofs.Laws.{and-parts, either}
 
 -- ---- a device of the code for a view
 -- a log that stands for a log's view
@@ -239,11 +239,6 @@ module _ (n : ℕ) (s : PoisonState) (v : ValidEntries n (s .entries)) where
 -- an outcome leaves a valid view
 record Leaves (o : Outcome) : Type 0 where
   valid : ValidView (o .next)
-
--- either of two
-pub either : {A : Type 0} (P : A → Type 0) (t : Bool) {a b : A} → P a → P b → P (cond t a b)
-either P true k l = k
-either P false k l = l
 
 module _ (s : DeviceState) (v : ValidView s) where
   -- with other valid logs; with another valid list; as it was

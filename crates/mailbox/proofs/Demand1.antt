@@ -1,7 +1,7 @@
 -- Demand 1: what is refused gives nothing and changes nothing. Shown of the definitions that the contracts cite, for every command and for every device-side
 -- call that has a number. (The contracts' own field `refused` says further that the code hands back the very same value.) Assumes nothing.
 use mathlib.Core.Path.{_≡_, refl, ap, _∙_}
-use mathlib.Core.Bool.{Bool, true, false, _&&_, cond}
+use mathlib.Core.Bool.{false, _&&_}
 use mathlib.Core.List.{List, []}
 use Prim.Native.Nat.{ℕ, _+_}
 use native.Mathlib.Omega.{arith}
@@ -24,6 +24,7 @@ use Rattle.mailbox.specs.declared.device_calls.MediaAnswer.{MediaAnswer}
 use Rattle.mailbox.specs.declared.device_calls.LineAnswer.{LineAnswer}
 use Rattle.mailbox.specs.Contracts.{Answered, Makes, EventDone, MediaDone, LineDone}
 use Rattle.wire.specs.Returns.{invalid-input}
+use Rattle.wire.proofs.Laws.{either}
 use Rattle.mailbox.specs.Numbers.{mailbox-size, most-units}
 use Rattle.mailbox.specs.Commands.{admission}
 use Rattle.mailbox.specs.Outcome.{Reply, replied, no-reply, Outcome, reads, changes}
@@ -46,11 +47,6 @@ record Silent (o : Reply) : Type 0 where
 
 record Keeps (s : PoisonState) (c : ListChange) : Type 0 where
   keeps : (c .code ≡ 0 → ⊥) → c .list ≡ s
-
--- either of two
-either : {A : Type 0} (P : A → Type 0) (t : Bool) {a b : A} → P a → P b → P (cond t a b)
-either P true k l = k
-either P false k l = l
 
 -- ---- replies
 success-silent : (bs : List ℕ) → Silent (replied bs)

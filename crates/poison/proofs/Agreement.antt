@@ -8,6 +8,7 @@ use native.Mathlib.Omega.{arith}
 use borrow.Author.Tests.{ltb-true}
 use lib.Dec.{ltb, eqb}
 use lib.ListN.{length, take, drop, getD, length-map, length-take, take-append-drop}
+use Rattle.wire.proofs.Laws.{and-parts}
 use Rattle.poison.specs.Runs.{Run, run, end, in-run, in-runs, Chain, insert, runs-of, cut, after-in, slots, room, uncovered, some-run, keeps, lost}
 use Rattle.poison.specs.State.{PoisonState, empty, shape, entry, shapes, covers, kind-at}
 use Rattle.poison.specs.Report.{with-drop, dropped-runs, report-entries, after-report}
@@ -179,14 +180,6 @@ pub keep-or : (b a : Bool) → (b || not a) ≡ not (not b && a)
 keep-or true a = refl
 keep-or false a = refl
 
-pub and-true-1 : (a b : Bool) → (a && b) ≡ true → b ≡ true
-and-true-1 true b e = e
-and-true-1 false b e = absurd (false≢true e)
-
-pub and-true-0 : (a b : Bool) → (a && b) ≡ true → a ≡ true
-and-true-0 true b e = refl
-and-true-0 false b e = e
-
 -- a line of a or of b
 or-elim : {A : Type 0} (a b : Bool) → (a ≡ true → A) → (b ≡ true → A) → (a || b) ≡ true → A
 or-elim true b f g e = f refl
@@ -296,7 +289,7 @@ module _ (n : ℕ) (s : PoisonState) (p : Paper) (g : Consistent n s p) where
         split = λ j. clear-split (in-runs E j) (D j) (p .set j) (eqb j k) (in-runs (lost k E) j) (g .split j) (gone j) ∙ rw (cutting j);
         apart = λ j. rw (cutting j) (clear-apart (in-runs E j) (D j) (eqb j k) (in-runs (lost k E) j) (g .apart j));
         never = λ e j. rw (g .never (or-left (s .overflow) (some-run (lost k (shapes (s .entries)))) e) j, no-run (lost k E) j (rw (g .same) at (or-right (s .overflow) (some-run (lost k (shapes (s .entries)))) e)));
-        inside = λ j e. g .inside j (and-true-0 (p .set j) (not (eqb j k)) e);
+        inside = λ j e. g .inside j (and-parts (p .set j) (not (eqb j k)) e .0);
       }
     where
       E : List Run
@@ -309,7 +302,7 @@ module _ (n : ℕ) (s : PoisonState) (p : Paper) (g : Consistent n s p) where
       cutting j = in-cut 0 n (keeps k E) k E (g .chain) j ∙ rw (keep-or (keeps k E) (in-runs (after-in k E) j), in-lost k E j)
 
       gone : (j : ℕ) → in-runs (lost k E) j ≡ true → (in-runs E j ≡ true) × (eqb j k ≡ false)
-      gone j e = after-within k E j (and-true-1 (not (keeps k E)) (in-runs (after-in k E) j) (sym (in-lost k E j) ∙ e))
+      gone j e = after-within k E j (and-parts (not (keeps k E)) (in-runs (after-in k E) j) (sym (in-lost k E j) ∙ e) .1)
 
 -- a new list and a blank paper
 pub consistent-blank : (n : ℕ) → Consistent n empty blank-paper

@@ -6,10 +6,11 @@ use mathlib.Core.List.{List, [], _∷_}
 use Prim.Native.Nat.{ℕ, _+_}
 use borrow.Author.Tests.{ltb-true, leb-true}
 use lib.Dec.{leb, ltb}
+use Rattle.wire.proofs.Laws.{and-parts}
 use Rattle.poison.specs.Report.{reportable}
 use Rattle.poison.specs.Inject.{injects}
 use Rattle.poison.specs.Paper.{Change, report, inject, clear, changed, written, takes, Pair, blank, step, run-changes, Agrees}
-use Rattle.poison.proofs.Agreement.{Consistent, consistent-report, consistent-inject, consistent-clear, consistent-blank, agrees, and-true-0, and-true-1}
+use Rattle.poison.proofs.Agreement.{Consistent, consistent-report, consistent-inject, consistent-clear, consistent-blank, agrees}
 
 abbrev ConsistentPair : ℕ → Pair → Type 0
 ConsistentPair n b = Consistent n (b .list) (b .paper)
@@ -19,12 +20,12 @@ consistent-step : (n : ℕ) (b : Pair) → ConsistentPair n b → (c : Change) �
 consistent-step n b g (report a l kind time) = go (takes n (b .list) (report a l kind time)) refl
   where
     go : (t : Bool) → takes n (b .list) (report a l kind time) ≡ t → ConsistentPair n (cond t (record { list = changed (b .list) (report a l kind time); paper = written (b .paper) (report a l kind time) }) b)
-    go true e = consistent-report n (b .list) (b .paper) g a l kind time (leb-true (a + l) n (and-true-1 (ltb 0 l) (leb (a + l) n) (and-true-1 (reportable kind) (ltb 0 l && leb (a + l) n) e)))
+    go true e = consistent-report n (b .list) (b .paper) g a l kind time (leb-true (a + l) n (and-parts (ltb 0 l) (leb (a + l) n) (and-parts (reportable kind) (ltb 0 l && leb (a + l) n) e .1) .1))
     go false e = g
 consistent-step n b g (inject k) = go (takes n (b .list) (inject k)) refl
   where
     go : (t : Bool) → takes n (b .list) (inject k) ≡ t → ConsistentPair n (cond t (record { list = changed (b .list) (inject k); paper = written (b .paper) (inject k) }) b)
-    go true e = consistent-inject n (b .list) (b .paper) g k (ltb-true k n (and-true-0 (ltb k n) (injects (b .list) k) e)) (and-true-1 (ltb k n) (injects (b .list) k) e)
+    go true e = consistent-inject n (b .list) (b .paper) g k (ltb-true k n (and-parts (ltb k n) (injects (b .list) k) e .0)) (and-parts (ltb k n) (injects (b .list) k) e .1)
     go false e = g
 consistent-step n b g (clear k time) = go (takes n (b .list) (clear k time))
   where

@@ -9,6 +9,7 @@ use native.Mathlib.Omega.{arith}
 use borrow.Author.Tests.{leb-true, leb-false, le-leb}
 use lib.Dec.{leb, eqb}
 use lib.ListN.{length, take, drop, length-map, length-take}
+use Rattle.wire.proofs.Laws.{and-parts}
 use Rattle.poison.specs.Runs.{Run, run, end, in-run, in-runs, total, Chain, insert-all, run-if-any, before, after, before-in, after-in, slots, room, uncovered, some-run, keeps, lost}
 use Rattle.poison.specs.State.{Entry, PoisonState, shape, shapes, entry, covers}
 use Rattle.poison.specs.Report.{found, stored-runs, dropped-runs, report-entries, with-drop, after-report}
@@ -19,7 +20,7 @@ use Rattle.poison.proofs.Counts.{Place, low, mid, high, place, inside-r
 use Rattle.poison.proofs.RunLaws.{chain-runs-of, in-part, in-cut, length-insert-all}
 use Rattle.poison.proofs.Extents.{chain-drop}
 use Rattle.poison.proofs.Shapes.{shapes-entry, shapes-insert-all, shapes-cut}
-use Rattle.poison.proofs.Agreement.{Consistent, and-true-1, same-dropped, in-lost, keep-or}
+use Rattle.poison.proofs.Agreement.{Consistent, same-dropped, in-lost, keep-or}
 
 -- ---- a report
 -- a line of some of the runs is a line of the runs
@@ -117,7 +118,7 @@ unfolding keeps
 dropped-by-clear xs k j e = go (leb slots (length xs)) (some-run (before-in k xs)) (some-run (after-in k xs)) refl refl (sym (in-lost k xs j) ∙ e)
   where
     go : (a b c : Bool) → leb slots (length xs) ≡ a → some-run (before-in k xs) ≡ b → (not (not (a && (b && c))) && in-runs (after-in k xs) j) ≡ true → (slots ≤ length xs) × BothLeft xs k j
-    go true true c f g h = (leb-true slots (length xs) f, both-left xs k j g (and-true-1 (not (not c)) (in-runs (after-in k xs) j) h))
+    go true true c f g h = (leb-true slots (length xs) f, both-left xs k j g (and-parts (not (not c)) (in-runs (after-in k xs) j) h .1))
     go true false c f g h = absurd (false≢true h)
     go false b c f g h = absurd (false≢true h)
 

@@ -11,7 +11,7 @@ use lib.Pow.{pow-add}
 use native.Mathlib.Nat.{pow-le-pow-right, zero-lt-suc}
 use Rattle.wire.specs.Returns.{need}
 use Rattle.wire.specs.Wire.{le, number, part, field, splice, same}
-use mathlib.Core.Bool.{Bool, true, false, _&&_}
+use mathlib.Core.Bool.{Bool, true, false, _&&_, cond, false≢true}
 use lib.Dec.{eqb}
 use lib.ListN.{length-append, drop-of-length-le}
 
@@ -133,3 +133,13 @@ need-holds n m e = sym (ap (λ (b : Bool). need b n m) e)
 pub need-zero : (t : Bool) (n m : ℕ) → 0 < n → need t n m ≡ 0 → (t ≡ true) × (m ≡ 0)
 need-zero true n m pos e = (refl, e)
 need-zero false n m pos e = absurd (omega arith)
+
+-- two tests that hold together
+pub and-parts : (a b : Bool) → (a && b) ≡ true → (a ≡ true) × (b ≡ true)
+and-parts true b e = (refl, e)
+and-parts false b e = absurd (false≢true e)
+
+-- what holds of both of two values holds of whichever a test takes
+pub either : {A : Type 0} (P : A → Type 0) (t : Bool) {a b : A} → P a → P b → P (cond t a b)
+either P true k l = k
+either P false k l = l

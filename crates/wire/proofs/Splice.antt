@@ -26,12 +26,13 @@ part-written at bs xs h =
     rw append-assoc
     (ap (take (length bs)) (drop-at (take at xs) (bs ++ drop (at + length bs) xs) at long) ∙ take-at bs (drop (at + length bs) xs) (length bs) refl)
 
--- a part of the first `at` elements does not see what follows them
-part-of-front : (i k at : ℕ) (xs t : List ℕ) → i + k ≤ at → at ≤ length xs → part i k (take at xs ++ t) ≡ part i k (take at xs)
+-- a part of the first elements of a list does not see what follows them
+pub part-front : (i k : ℕ) (a b : List ℕ) → i + k ≤ length a → part i k (a ++ b) ≡ part i k a
 unfolding part
-part-of-front i k at xs t h fits =
-    let long : length (take at xs) ≡ at = simp length-take (omega arith) in
-    ap (take k) (drop-append-le i (take at xs) t (omega arith)) ∙ take-append-le k (drop i (take at xs)) t (simp length-drop (omega arith))
+part-front i k a b h = ap (take k) (drop-append-le i a b (omega arith)) ∙ take-append-le k (drop i a) b (rw length-drop (omega arith))
+
+part-of-front : (i k at : ℕ) (xs t : List ℕ) → i + k ≤ at → at ≤ length xs → part i k (take at xs ++ t) ≡ part i k (take at xs)
+part-of-front i k at xs t h fits = part-front i k (take at xs) t (rw length-take (omega arith))
 
 -- a part that ends where a splice begins, or before
 pub part-before : (i k at : ℕ) (bs xs : List ℕ) → i + k ≤ at → at + length bs ≤ length xs → part i k (splice at bs xs) ≡ part i k xs
