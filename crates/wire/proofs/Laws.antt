@@ -1,4 +1,4 @@
--- Laws of the definitions of `specs/`, those of `Wire.antt` each over the width. Assumes nothing.
+-- Laws of the definitions of `specs/`, those of `Wire.antt` each over the width; and two on tests that every layer uses. Assumes nothing.
 use mathlib.Core.Path.{_≡_, refl, sym, ap, ap₂, _∙_, subst}
 use mathlib.Core.List.{List, [], _∷_, _++_}
 use Prim.Native.Nat.{ℕ, zero, suc, _+_, _-_, _*_, _/_, _%_, _^_, _≤_, _<_}

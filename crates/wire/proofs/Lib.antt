@@ -1,4 +1,4 @@
--- The laws of crate `wire` that more than one proof cites, by subject.
+-- The laws of crate `wire` that more than one proof cites, by subject, and examples.
 pub mod Laws
 pub mod Splice
 pub mod Examples
