@@ -1,30 +1,23 @@
 -- Document 01's example of the bench program, from the bytes of its input to the bytes of its output, by computation with the definitions that the
 -- contracts cite. Assumes nothing.
 use mathlib.Core.Path.{_≡_, refl}
-use mathlib.Core.Bool.{true, false, cond}
 use mathlib.Core.List.{List, [], _∷_, _++_}
-use Prim.Native.Nat.{ℕ, zero, suc, _+_}
+use Prim.Native.Nat.{ℕ}
 use lib.ListN.{length, take, drop, replicate}
-use Rattle.mailbox.specs.State.{DeviceState}
 use Rattle.mailbox.proofs.Laws.{rules}
-use Rattle.bench.specs.Text.{numeral, hex}
-use Rattle.bench.specs.Records.{served, mark-of, whole, read-command, read-marked, read-record}
-use Rattle.bench.specs.Lines.{new-line, command-line, unless-refused, event-line, pair-line, bad-line, last-line}
-use Rattle.bench.specs.Calls.{first-record, serve-record}
-
--- what is printed from a place on, where at most n records come
-printed : ℕ → DeviceState → ℕ → List ℕ → List ℕ
-printed zero d offset l = []
-printed (suc n) d offset l =
-    let r = read-record false l in
-    let done = serve-record (r .mark) d (take (r .size) l) in
-    cond (served (r .mark)) (done .line ++ printed n (done .next) (offset + r .size) (drop (r .size) l)) (last-line (r .mark) offset)
+use Rattle.protocol.specs.Text.{numeral, columns, hex, bad-line, last-line}
+use Rattle.protocol.specs.Records.{whole, tells, front-size}
+use Rattle.protocol.specs.Runs.{reading}
+use Rattle.protocol.proofs.Laws.{printed}
+use Rattle.protocol.specs.Formats.{bench-fixed, bench-size, fixed, size}
+use Rattle.bench.specs.Lines.{command-line, told-line}
+use Rattle.bench.specs.Calls.{first-record, serve-command, serve-event, serve-media, serve-line, serve-record, bench}
 
 -- what is printed for an input that begins with NW
 program : ℕ → List ℕ → List ℕ
 program n l =
-    let first = take (read-record true l .size) l in
-    first-record first .line ++ printed n (first-record first .next) (length first) (drop (length first) l)
+    let first = take (reading bench 0 l) l in
+    first-record first .line ++ printed bench n (first-record first .next) (length first) (drop (length first) l)
 
 -- "NW 1 0; MD time 0, address 128, 3 lines, type 2; CM time 0, 4302h, address 192, 64 zero bytes; LT 192; LT 128; CM time 0, 4300h, address 0, 16 lines"
 input : List ℕ
@@ -48,5 +41,5 @@ output =
 
 -- the definitions give the document's output
 example : program 10 input ≡ output
-unfolding program printed input output rules numeral hex mark-of whole read-command read-marked read-record new-line command-line unless-refused event-line pair-line bad-line last-line first-record serve-record
+unfolding program printed input output rules numeral columns hex bad-line last-line whole tells front-size fixed size bench-fixed bench-size command-line told-line first-record serve-command serve-event serve-media serve-line serve-record
 example = refl

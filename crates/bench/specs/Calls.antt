@@ -1,21 +1,22 @@
 -- Each record's call, at the fields read out of its bytes (document 01, "Bench program"), by the mailbox's own definitions; and what serving it gives.
--- A field stands after the two bytes of the mark. Assumes nothing.
+-- A field stands after the two bytes of the mark. NW, MD and LT have the calls of `protocol`. Assumes nothing.
 use Prim.Native.Nat.{ℕ}
-use mathlib.Core.List.{List, []}
+use mathlib.Core.Bool.{cond}
+use mathlib.Core.List.{List, [], _∷_}
+use lib.Dec.{eqb}
 use lib.ListN.{getD, drop}
 use Rattle.wire.specs.Wire.{field, part}
 use Rattle.mailbox.specs.State.{DeviceState}
 use Rattle.mailbox.specs.Outcome.{Outcome}
 use Rattle.mailbox.specs.Mailbox.{outcome}
-use Rattle.mailbox.specs.DeviceCalls.{MakeOutcome, EventOutcome, MediaOutcome, LineOutcome, make, event-report, media-report, line-test}
-use Rattle.bench.specs.declared.records.Mark.{Mark}
-use Rattle.bench.specs.declared.records.Mark.the-variants.{New, Command, Event, Media, Line, Bad, End}
-use Rattle.bench.specs.Records.{letters}
-use Rattle.bench.specs.Lines.{new-line, command-line, event-line, pair-line}
-
--- "NW (volatile 2, persistent 2)"
-abbrev pub new-call : List ℕ → MakeOutcome
-new-call r = make (field r 2 2) (field r 4 2)
+use Rattle.mailbox.specs.DeviceCalls.{EventOutcome, event-report}
+use Rattle.protocol.specs.declared.formats.Format.the-variants.{Bench}
+use Rattle.protocol.specs.Text.{numbers-line}
+use Rattle.protocol.specs.Records.{mark-of, NW, CM, EV, MD, LT}
+use Rattle.protocol.specs.Formats.{fixed, size}
+use Rattle.protocol.specs.Calls.{new-call, media-call, line-call}
+use Rattle.protocol.specs.Runs.{Printed, Program}
+use Rattle.bench.specs.Lines.{command-line, told-line}
 
 -- "CM (time 8, opcode 2, length 2, payload)", with a reply buffer of 2,048 bytes
 abbrev pub command-call : DeviceState → List ℕ → Outcome
@@ -25,29 +26,34 @@ command-call d r = outcome d (field r 10 2) (drop 14 r) (field r 2 8) 2048
 abbrev pub event-call : DeviceState → List ℕ → EventOutcome
 event-call d r = event-report d (field r 2 8) (getD r 10 0) (part 11 128 r)
 
--- "MD (time 8, address 8, lines 4, type 1)"
-abbrev pub media-call : DeviceState → List ℕ → MediaOutcome
-media-call d r = media-report d (field r 2 8) (field r 10 8) (field r 18 4) (getD r 22 0)
-
--- "LT (address 8)"
-abbrev pub line-call : DeviceState → List ℕ → LineOutcome
-line-call d r = line-test d (field r 2 8)
-
--- what serving a record gives: the bytes printed and the device that follows
-pub record Printed : Type 0 where
-  pub line : List ℕ
-  pub next : DeviceState
-
 -- the first record: the device that it makes
-unfoldable pub first-record : List ℕ → Printed
-first-record r = record { line = new-line (new-call r .code); next = new-call r .next }
+unfoldable pub first-record : List ℕ → Printed DeviceState
+first-record r = record { line = numbers-line NW (new-call r .code ∷ []); next = new-call r .next }
 
--- a later record, by its mark: "MD stored and dropped, LT answer and type"; a line test leaves the device, and where no record stands nothing is printed
-unfoldable pub serve-record : Mark → DeviceState → List ℕ → Printed
-serve-record Command d r = record { line = command-line (command-call d r .code) (command-call d r .reply); next = command-call d r .next }
-serve-record Event d r = record { line = event-line (event-call d r .code) (event-call d r .stored); next = event-call d r .next }
-serve-record Media d r = record { line = pair-line (letters Media) (media-call d r .code) (media-call d r .stored) (media-call d r .dropped); next = media-call d r .next }
-serve-record Line d r = record { line = pair-line (letters Line) (line-call d r .code) (line-call d r .number) (line-call d r .kind); next = d }
-serve-record New d r = record { line = []; next = d }
-serve-record Bad d r = record { line = []; next = d }
-serve-record End d r = record { line = []; next = d }
+-- CM: the code, the length of the reply and its bytes
+unfoldable pub serve-command : DeviceState → List ℕ → Printed DeviceState
+serve-command d r = record { line = command-line (command-call d r .code) (command-call d r .reply); next = command-call d r .next }
+
+-- "EV 1 or 0": stored or not
+unfoldable pub serve-event : DeviceState → List ℕ → Printed DeviceState
+serve-event d r = record { line = told-line EV (event-call d r .code) (cond (event-call d r .stored) 1 0 ∷ []); next = event-call d r .next }
+
+-- "MD stored and dropped"
+unfoldable pub serve-media : DeviceState → List ℕ → Printed DeviceState
+serve-media d r = record { line = told-line MD (media-call d r .code) (media-call d r .stored ∷ media-call d r .dropped ∷ []); next = media-call d r .next }
+
+-- "LT answer and type"; a line test leaves the device
+unfoldable pub serve-line : DeviceState → List ℕ → Printed DeviceState
+serve-line d r = record { line = told-line LT (line-call d r .code) (line-call d r .number ∷ line-call d r .kind ∷ []); next = d }
+
+-- a later record, by its mark; of another mark there is none
+unfoldable pub serve-record : DeviceState → List ℕ → Printed DeviceState
+serve-record d r =
+    cond (eqb (mark-of r) (mark-of CM)) (serve-command d r)
+    (cond (eqb (mark-of r) (mark-of EV)) (serve-event d r)
+    (cond (eqb (mark-of r) (mark-of MD)) (serve-media d r)
+    (cond (eqb (mark-of r) (mark-of LT)) (serve-line d r) (record { line = []; next = d }))))
+
+-- the program after the first record
+abbrev pub bench : Program DeviceState
+bench = record { fixed = fixed Bench; size = size Bench; serve = serve-record }

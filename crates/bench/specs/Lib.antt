@@ -1,7 +1,4 @@
--- The definitions that the contracts of crate `bench` cite, by subject.
-pub mod Text
-pub mod Stream
-pub mod Records
+-- The definitions that the contracts of crate `bench` cite, by subject; those that it shares with `probe` are in `protocol`.
 pub mod Lines
 pub mod Calls
 pub mod Runs

@@ -2,10 +2,9 @@
 // One record is in memory at a time; the input may have any length. That it is safe and ends is proved, and so is every record's call and line (`Runs`); what
 // the system's calls read and write is tested.
 mod lines;
-mod output;
-mod records;
 mod serve;
-mod stream;
+
+use protocol::stream;
 
 fn main() {
     let mut input = io::large_buffer();

@@ -1,8 +1,8 @@
 -- `bench::serve::call_event` meets its contract: the fields read are those of the record's bytes. Assumes nothing.
 use mathlib.Core.Path.{refl}
 use borrow.Author.Needs.{needs}
-use Rattle.bench.proofs.CallLaws.{event-as}
 use Rattle.wire.specs.Wire.{part}
+use Rattle.bench.proofs.CallLaws.{event-as}
 use Rattle.bench.proofs.serve.call_event.Statement.{statement}
 use Rattle.bench.proofs.serve.call_event.Tie as tie
 
@@ -26,9 +26,7 @@ event-report-requires c κs = search needs
 
 returns : tie.Need-returns
 unfolding part
-returns c =
-    let s = c .before .before .before .before .before in
-    event-as (s .args .bytes .now) _ _ _ (c .event-report .ensures) (c .before .before .before .get .ensures .value) refl refl
+returns c = event-as (c .before .before .before .before .before .args .bytes .now) _ _ _ (c .event-report .ensures) (c .before .before .before .get .ensures .value) refl refl
 
 pub call-event-spec : {M : Type 1} → statement M
 call-event-spec =

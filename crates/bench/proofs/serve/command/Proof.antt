@@ -1,7 +1,8 @@
 -- `bench::serve::command` meets its contract: what is printed of the reply buffer is the reply. Assumes nothing.
 use native.Mathlib.Omega.{arith}
 use borrow.Author.Needs.{needs}
-use Rattle.bench.proofs.CallLaws.{reply-fits, command-served}
+use Rattle.protocol.proofs.Laws.{reply-fits}
+use Rattle.bench.proofs.CallLaws.{command-served}
 use Rattle.bench.proofs.serve.command.Statement.{statement}
 use Rattle.bench.proofs.serve.command.Tie as tie
 
@@ -10,10 +11,10 @@ call-command-requires c κs = search needs
 
 put-command-requires : tie.Need-put-command-requires
 put-command-requires c κs =
-    let k = c .before .before .before .before in
-    let s = k .before .before .before .before .before in
-    let short = reply-fits (k .call-command .ensures) (k .call-command .kept .1 .1 .0) in
-    (s .pre .0 .room, omega (arith, short, k .call-command .kept .1 .1 .0), omega (arith, short, s .pre .1))
+    let call = c .before .before .before .before .call-command in
+    let s = c .before .before .before .before .before .before .before .before .before in
+    let short = reply-fits (call .ensures) (call .kept .1 .1 .0) in
+    (s .pre .3, omega (arith, short, call .kept .1 .1 .0), omega (arith, short, s .pre .2))
 
 same-length : tie.Need-same-length
 same-length c = search needs
@@ -23,9 +24,8 @@ same-length-2 c = search needs
 
 returns : tie.Need-returns
 returns c =
-    let k = c .before .before .before .before .before .before .before .before in
-    let s = k .before .before .before .before .before in
-    command-served (s .args .bytes .now) (k .call-command .ensures) (k .call-command .kept .1 .1 .0) (s .pre .1) (c .before .before .before .put-command .ensures) (s .pre .0 .room)
+    let call = c .before .before .before .before .before .before .before .before .call-command in
+    command-served (c .before .before .before .before .before .before .before .before .before .before .before .before .before .args .bytes .now) (call .ensures) (c .before .before .before .put-command .ensures)
 
 pub command-spec : {M : Type 1} → statement M
 command-spec =

@@ -4,8 +4,11 @@ use Rattle.bench.proofs.CallLaws.{line-served}
 use Rattle.bench.proofs.serve.line.Statement.{statement}
 use Rattle.bench.proofs.serve.line.Tie as tie
 
-call-line-requires : tie.Need-call-line-requires
-call-line-requires c κs = search needs
+line-requires : tie.Need-line-requires
+line-requires c κs = search needs
+
+cast-t8 : tie.Need-cast-t8
+cast-t8 c = search needs
 
 answer-number-requires : tie.Need-answer-number-requires
 answer-number-requires c κs = search needs
@@ -13,25 +16,29 @@ answer-number-requires c κs = search needs
 answer-kind-requires : tie.Need-answer-kind-requires
 answer-kind-requires c κs = search needs
 
-put-pair-requires : tie.Need-put-pair-requires
-put-pair-requires c κs = search needs
+slice-aggregate-put-told : tie.Need-slice-aggregate-put-told
+slice-aggregate-put-told c = search needs
+
+put-told-requires : tie.Need-put-told-requires
+put-told-requires c κs = search needs
 
 same-length : tie.Need-same-length
 same-length c = search needs
 
 returns : tie.Need-returns
 returns c =
-    let s = c .before .before .before .before .before .before .before .before .before in
-    line-served (s .args .bytes .now) (s .args .device) (c .before .before .before .before .before .before .call-line .ensures) (c .before .before .before .before .answer-number .ensures) (c .before .before .before .answer-kind .ensures) (c .before .before .put-pair .ensures)
-    (s .pre .room)
+    line-served (c .before .before .before .before .before .before .before .before .before .before .before .args .bytes .now) (c .before .before .before .before .before .before .before .before .before .before .before .args .device) (c .before .before .before .before .before .before .before .before .line .ensures) (c .before .before .before .before .before .before .answer-number .ensures)
+    (c .before .before .before .before .before .answer-kind .ensures) (c .before .before .put-told .ensures)
 
 pub line-spec : {M : Type 1} → statement M
 line-spec =
     tie.close
     (tie.spec
-    call-line-requires
+    line-requires
+    cast-t8
     answer-number-requires
     answer-kind-requires
-    put-pair-requires
+    slice-aggregate-put-told
+    put-told-requires
     same-length
     returns)

@@ -4,33 +4,39 @@ use Rattle.bench.proofs.CallLaws.{media-served}
 use Rattle.bench.proofs.serve.media.Statement.{statement}
 use Rattle.bench.proofs.serve.media.Tie as tie
 
-call-media-requires : tie.Need-call-media-requires
-call-media-requires c κs = search needs
+media-requires : tie.Need-media-requires
+media-requires c κs = search needs
 
-cast-put-pair : tie.Need-cast-put-pair
-cast-put-pair c = search needs
+cast-t9 : tie.Need-cast-t9
+cast-t9 c = search needs
 
-cast-put-pair-2 : tie.Need-cast-put-pair-2
-cast-put-pair-2 c = search needs
+cast-t10 : tie.Need-cast-t10
+cast-t10 c = search needs
 
-put-pair-requires : tie.Need-put-pair-requires
-put-pair-requires c κs = search needs
+cast-t11 : tie.Need-cast-t11
+cast-t11 c = search needs
+
+slice-aggregate-put-told : tie.Need-slice-aggregate-put-told
+slice-aggregate-put-told c = search needs
+
+put-told-requires : tie.Need-put-told-requires
+put-told-requires c κs = search needs
 
 same-length : tie.Need-same-length
 same-length c = search needs
 
 returns : tie.Need-returns
-returns c =
-    let s = c .before .before .before .before .before .before .before .before .before .before in
-    media-served (s .args .bytes .now) (c .before .before .before .before .before .before .before .call-media .ensures) (c .before .before .before .put-pair .ensures) (s .pre .room)
+returns c = media-served (c .before .before .before .before .before .before .before .before .before .before .before .before .args .bytes .now) (c .before .before .before .before .before .before .before .before .before .media .ensures) (c .before .before .before .put-told .ensures)
 
 pub media-spec : {M : Type 1} → statement M
 media-spec =
     tie.close
     (tie.spec
-    call-media-requires
-    cast-put-pair
-    cast-put-pair-2
-    put-pair-requires
+    media-requires
+    cast-t9
+    cast-t10
+    cast-t11
+    slice-aggregate-put-told
+    put-told-requires
     same-length
     returns)

@@ -1,42 +1,105 @@
 -- `bench::serve::serve` meets its contract. The invariant: the three buffers keep their lengths, the device is valid, the stream's places lie in the
 -- buffers, and where the program is now is a run away from where it began. The measure is what is left of the offsets. Assumes nothing.
-use mathlib.Core.Path.{_≡_, refl}
-use Prim.Native.Nat.{_-_, _<_, _≤_}
+use mathlib.Core.Path.{_≡_, refl, sym, _∙_}
+use mathlib.Core.List.{List}
+use Prim.Native.Nat.{ℕ, _+_, _-_, _<_, _≤_}
 use native.Mathlib.Omega.{arith}
-use borrow.Author.Needs.{needs}
-use Rattle.bench.specs.Runs.{machine-of, Steps}
-use Rattle.bench.specs.Runs.Steps.{stay}
-use Rattle.bench.specs.Records.{least, OneRecord}
-use Rattle.bench.specs.declared.records.Mark.{Mark}
-use Rattle.bench.proofs.CallLaws.{line-stays}
-use Rattle.bench.proofs.RunLaws.{step-read, step-room, step-serve, run-ends, run-far}
-use borrow.Author.Tests.{ne-eqb}
-use mathlib.Core.Bool.{false}
-use Rattle.bench.specs.declared.records.Mark.the-variants.{Command, Event, Media, Line}
-use Rattle.bench.proofs.RecordLaws.{one-record, none-served}
-use Rattle.mailbox.specs.State.{ValidDevice, state-of}
-use Rattle.bench.specs.Stream.{Fits}
+use lib.Dec.{eqb}
 use lib.ListN.{length, take, drop}
-use Rattle.bench.proofs.CallLaws.{event-served}
+use Rattle.mailbox.specs.declared.device.Device.{Device}
+use Rattle.mailbox.specs.State.{ValidDevice, state-of}
+use Rattle.protocol.specs.Stream.{Fits}
+use Rattle.protocol.specs.Records.{mark-of, OneRecord}
+use Rattle.protocol.specs.Runs.{reading, machine-of, Steps}
+use Rattle.protocol.specs.Runs.Steps.{stay}
+use Rattle.protocol.specs.Contracts.{Serves}
+use Rattle.protocol.proofs.Laws.{serves-as, sized, local-front, mark-there, one-record, with-used, turn-served, turn-ends, run-far}
+use Rattle.protocol.specs.declared.formats.Format.the-variants.{Bench}
+use Rattle.protocol.specs.Formats.{fixed, size}
+use Rattle.bench.specs.Calls.{serve-record, bench}
+use Rattle.bench.proofs.RecordLaws.{command-long, event-long, media-long, line-long, marked}
+use Rattle.bench.proofs.CallLaws.{event-served, line-stays, by-command, by-event, by-media, by-line}
 use Rattle.bench.proofs.serve.serve.Statement.{statement}
 use Rattle.bench.proofs.serve.serve.Tie as tie
 
 abbrev Inv-loop : tie.InvT-loop
 Inv-loop input₀ out₀ reply₀ device₀ s₀ input out reply device s =
     (length input ≡ 65536) × (length out ≡ 65536) × (length reply ≡ 2048) × ValidDevice device × Fits s × (0 < s .offset)
-    × Steps (machine-of (state-of device₀) s₀ input₀ out₀) (machine-of (state-of device) s input out)
+    × Steps bench (machine-of (state-of device₀) s₀ input₀ out₀) (machine-of (state-of device) s input out)
 
 abbrev μ-loop : tie.MeasureT-loop
 μ-loop input₀ out₀ reply₀ device₀ s₀ input out reply device s = 9223372036854775808 - s .offset
 
--- the bytes of a record of mark m, taken out of the input buffer, are that record
-this :
-    (k : tie.After-past Inv-loop μ-loop) (m : Mark) → k .before .before .before .before .before .before .next .result .mark ≡ m → 2 ≤ least m
-    → OneRecord false m (take (k .past .result .at - k .before .before .before .before .before .before .next .result .stream .at) (drop (k .before .before .before .before .before .before .next .result .stream .at) (k .before .before .before .before .before .before .next .last .1 .0)))
-this k m e two =
-    let l = k .before .before .before .before .before .before .before .before .before .before .before .loop in
-    let found = k .before .before .before .before .before .before .next in
-    one-record false m (found .ensures) (ne-eqb (l .s .offset) 0 (λ e. omega (arith, e, l .inv .5))) (omega (arith, found .kept, l .inv .0)) (k .past .ensures) e two
+-- the input buffer keeps its length, and the line has room
+long : (k : tie.After-next Inv-loop μ-loop) → length (k .next .last .1 .1 .0) ≡ 65536
+long k = omega (arith, k .next .kept, k .before .before .before .before .before .loop .inv .0)
+
+roomy : (k : tie.After-make-room Inv-loop μ-loop) → k .make-room .result + 4200 ≤ length (k .before .before .before .before .before .before .before .before .before .before .loop .out)
+roomy k = omega (arith, k .make-room .ensures .1, k .before .before .before .before .before .before .before .before .before .before .loop .inv .1)
+
+-- the places that a turn has passed where a record was found: the loop, what was found, the room made for a line
+abbrev at-loop : tie.After-past Inv-loop μ-loop → tie.At-loop Inv-loop μ-loop
+at-loop k = k .before .before .before .before .before .before .before .before .before .before .before .before .before
+
+abbrev began : tie.After-past Inv-loop μ-loop → tie.Start Inv-loop μ-loop
+began k = k .before .before .before .before .before .before .before .before .before .before .before .before .before .before .before .before .before
+
+abbrev looked : tie.After-past Inv-loop μ-loop → tie.After-next Inv-loop μ-loop
+looked k = k .before .before .before .before .before .before .before .before
+
+abbrev roomed : tie.After-past Inv-loop μ-loop → tie.After-make-room Inv-loop μ-loop
+roomed k = k .before .before .before
+
+-- the record found: its bytes are one whole record, which lies in the buffer, and the offset grows by it
+abbrev bytes : tie.After-past Inv-loop μ-loop → List ℕ
+bytes k = take (k .past .result .at - looked k .next .result .stream .at) (drop (looked k .next .result .stream .at) (looked k .next .last .1 .1 .0))
+
+this : (k : tie.After-past Inv-loop μ-loop) → OneRecord (reading bench (at-loop k .loop .s .offset)) (bytes k)
+this k =
+    let first = eqb (at-loop k .loop .s .offset) 0 in
+    one-record (reading bench (at-loop k .loop .s .offset)) (local-front (fixed Bench first) (size Bench) (sized Bench first)) (looked k .next .ensures) (k .before .if2 .left)
+    (long (looked k)) (k .past .ensures)
+
+ordered : (k : tie.After-past Inv-loop μ-loop) → looked k .next .result .stream .at ≤ k .past .result .at
+ordered k = omega (arith, k .past .ensures .at)
+
+inside : (k : tie.After-past Inv-loop μ-loop) → k .past .result .at ≤ length (looked k .next .last .1 .1 .0)
+inside k =
+    let found = looked k .next .ensures in
+    omega (arith, k .past .ensures .at, found .inside, found .same .fits .order, found .same .fits .input, long (looked k))
+
+grows : (k : tie.After-past Inv-loop μ-loop) → at-loop k .loop .s .offset < k .past .result .offset
+grows k = omega (arith, k .past .ensures .offset, looked k .next .ensures .same .place, k .before .if2 .left)
+
+less : (k : tie.After-past Inv-loop μ-loop) → 9223372036854775808 - k .past .result .offset < 9223372036854775808 - at-loop k .loop .s .offset
+less k = omega (arith, grows k, k .before .before .before .before .before .before .before .before .before .before .before .if1 .taken)
+
+-- its mark, as it was read
+named : (k : tie.After-mark Inv-loop μ-loop) (m : ℕ) → k .mark .result ≡ m → mark-of (bytes (k .before .before .before)) ≡ m
+named k m e = sym (k .mark .ensures) ∙ e
+
+-- no record has another mark
+known : (k : tie.At-match-rest Inv-loop μ-loop) → ⊥
+known k =
+    let p = k .before .before .before .before in
+    let seen = k .before .mark .ensures in
+    let other = k .match .rest in
+    let l = at-loop p .loop in
+    marked (l .s .offset) (bytes p) (l .inv .5) (this p)
+    (λ e. other .0 .0 .0 .1 (seen ∙ e)) (λ e. other .0 .0 .1 (seen ∙ e)) (λ e. other .0 .1 (seen ∙ e)) (λ e. other .1 (seen ∙ e))
+
+-- a record served is a step of the run
+again :
+    (k : tie.After-past Inv-loop μ-loop) {device : Device} {used : ℕ} {out : List ℕ}
+    → Serves (serve-record (state-of (at-loop k .loop .device)) (bytes k)) (roomed k .make-room .result) (record { used = used; device = device }) (at-loop k .loop .out) out
+    → Fits (with-used (k .past .result) used)
+    × Steps bench (machine-of (state-of (began k .args .made)) (began k .args .start) (began k .args .input .now) (began k .args .out .now))
+    (machine-of (state-of device) (with-used (k .past .result) used) (looked k .next .last .1 .1 .0) out)
+again k served =
+    let l = at-loop k .loop in
+    turn-served bench (state-of (l .device)) (l .s) (looked k .next .result) (l .out) 4200 (roomed k .make-room .result) (l .inv .6)
+    (looked k .next .ensures) (roomed k .make-room .ensures .0) (long (looked k)) (k .past .result) (k .past .ensures) (this k) (served .next)
+    (served .line) (omega (arith, roomy (roomed k))) (l .inv .1)
 
 loop-holds : tie.Need-loop-holds Inv-loop μ-loop
 loop-holds c =
@@ -44,273 +107,217 @@ loop-holds c =
     (given .3, given .4, given .5, given .0, given .1, given .2, stay)
 
 next-requires : tie.Need-next-requires Inv-loop μ-loop
-next-requires c κs = search needs
+next-requires c κs =
+    let l = c .before .before .before .before .loop in
+    (l .inv .4, l .inv .0, l .inv .1)
 
 make-room-requires : tie.Need-make-room-requires Inv-loop μ-loop
-make-room-requires c κs = search needs
+make-room-requires c κs = (c .before .before .before .before .next .ensures .same .fits .output, omega arith, c .before .before .before .before .before .before .before .before .before .loop .inv .1)
 
-past-requires : tie.Need-past-requires Inv-loop μ-loop
-past-requires c κs = search needs
-
-enum-told : tie.Need-enum-told Inv-loop μ-loop
-enum-told c = search needs
-
-sub-command : tie.Need-sub-command Inv-loop μ-loop
-sub-command c = search needs
-
-part-command-start : tie.Need-part-command-start Inv-loop μ-loop
-part-command-start c = search needs
-
-part-command-end : tie.Need-part-command-end Inv-loop μ-loop
-part-command-end c = search needs
-
-command-requires : tie.Need-command-requires Inv-loop μ-loop
-command-requires c κs =
-    let k = c .before .before .before .before .before .before in
-    let l = k .before .before .before .before .before .before .before .before .before .before .before .loop in
-    let found = k .before .before .before .before .before .before .next in (
-      record {
-        valid = l .inv .3;
-        this = this k Command (c .before .before .before .before .enum-told .given .1) (omega arith);
-        room = omega (arith, k .before .make-room .ensures .1, l .inv .1);
-      },
-      l .inv .2,
-    )
-
-enum-told-2 : tie.Need-enum-told-2 Inv-loop μ-loop
-enum-told-2 c = search needs
-
-sub-call-event : tie.Need-sub-call-event Inv-loop μ-loop
-sub-call-event c = search needs
-
-part-call-event-start : tie.Need-part-call-event-start Inv-loop μ-loop
-part-call-event-start c = search needs
-
-part-call-event-end : tie.Need-part-call-event-end Inv-loop μ-loop
-part-call-event-end c = search needs
-
-call-event-requires : tie.Need-call-event-requires Inv-loop μ-loop
-call-event-requires c κs =
-    let k = c .before .before .before .before in
-    let l = k .before .before .before .before .before .before .before .before .before .before .before .loop in
-    (l .inv .3, this k Event (c .before .before .enum-told2 .given .1) (omega arith) .enough)
-
-put-event-requires : tie.Need-put-event-requires Inv-loop μ-loop
-put-event-requires c κs =
-    let k = c .before .before .before .before .before .before .before in
-    let l = k .before .before .before .before .before .before .before .before .before .before .before .loop in
-    omega (arith, k .before .make-room .ensures .1, l .inv .1)
-
-enum-told-3 : tie.Need-enum-told-3 Inv-loop μ-loop
-enum-told-3 c = search needs
-
-sub-media : tie.Need-sub-media Inv-loop μ-loop
-sub-media c = search needs
-
-part-media-start : tie.Need-part-media-start Inv-loop μ-loop
-part-media-start c = search needs
-
-part-media-end : tie.Need-part-media-end Inv-loop μ-loop
-part-media-end c = search needs
-
-media-requires : tie.Need-media-requires Inv-loop μ-loop
-media-requires c κs =
-    let k = c .before .before .before .before .before in
-    let l = k .before .before .before .before .before .before .before .before .before .before .before .loop in
-    let found = k .before .before .before .before .before .before .next in
-    record {
-      valid = l .inv .3;
-      this = this k Media (c .before .before .before .enum-told3 .given .1) (omega arith);
-      room = omega (arith, k .before .make-room .ensures .1, l .inv .1);
-    }
-
-enum-told-4 : tie.Need-enum-told-4 Inv-loop μ-loop
-enum-told-4 c = search needs
-
-sub-line : tie.Need-sub-line Inv-loop μ-loop
-sub-line c = search needs
-
-part-line-start : tie.Need-part-line-start Inv-loop μ-loop
-part-line-start c = search needs
-
-part-line-end : tie.Need-part-line-end Inv-loop μ-loop
-part-line-end c = search needs
-
-line-requires : tie.Need-line-requires Inv-loop μ-loop
-line-requires c κs =
-    let k = c .before .before .before .before .before in
-    let l = k .before .before .before .before .before .before .before .before .before .before .before .loop in
-    let found = k .before .before .before .before .before .before .next in
-    record {
-      valid = l .inv .3;
-      this = this k Line (c .before .before .before .enum-told4 .given .1) (omega arith);
-      room = omega (arith, k .before .make-room .ensures .1, l .inv .1);
-    }
+sub-stop : tie.Need-sub-stop Inv-loop μ-loop
+sub-stop c = c .before .before .before .before .before .before .before .before .before .next .ensures .same .fits .order
 
 stop-requires : tie.Need-stop-requires Inv-loop μ-loop
-stop-requires c κs =
-    let k = c .before .before in
-    (none-served (k .before .before .before .before .before .before .next .result .mark) (c .before .match .keys5), omega (arith, k .before .make-room .ensures .1, k .before .before .before .before .before .before .before .before .before .before .before .loop .inv .1))
+stop-requires c κs = omega (arith, roomy (c .before .before .before .before))
 
 same-length : tie.Need-same-length Inv-loop μ-loop
-same-length c =
-    let k = c .before .before .before .before .before in
-    omega (arith, k .before .before .before .before .before .before .next .kept, k .before .before .before .before .before .before .before .before .before .before .before .loop .inv .0, k .before .before .before .before .before .before .before .before .before .before .before .before .before .before .before .pre .3)
+same-length c = omega (arith, long (c .before .before .before .before .before .before .before .before .before .before .before .before), c .before .before .before .before .before .before .before .before .before .before .before .before .before .before .before .before .before .before .before .before .before .pre .3)
 
 same-length-2 : tie.Need-same-length-2 Inv-loop μ-loop
-same-length-2 c =
-    let k = c .before .before .before .before .before in
-    omega (arith, c .before .before .stop .kept, k .before .before .before .before .before .before .before .before .before .before .before .loop .inv .1, k .before .before .before .before .before .before .before .before .before .before .before .before .before .before .before .pre .4)
+same-length-2 c = omega (arith, c .before .before .stop .kept, c .before .before .before .before .before .before .before .before .before .before .before .before .before .before .before .before .before .loop .inv .1, c .before .before .before .before .before .before .before .before .before .before .before .before .before .before .before .before .before .before .before .before .before .pre .4)
 
 same-length-3 : tie.Need-same-length-3 Inv-loop μ-loop
-same-length-3 c =
-    let k = c .before .before .before .before .before in
-    omega (arith, k .before .before .before .before .before .before .before .before .before .before .before .loop .inv .2, k .before .before .before .before .before .before .before .before .before .before .before .before .before .before .before .pre .5)
+same-length-3 c = omega (arith, c .before .before .before .before .before .before .before .before .before .before .before .before .before .before .before .before .before .loop .inv .2, c .before .before .before .before .before .before .before .before .before .before .before .before .before .before .before .before .before .before .before .before .before .pre .5)
 
 returns : tie.Need-returns Inv-loop μ-loop
 returns c =
-    let k = c .before .before .before .before .before in
-    let l = k .before .before .before .before .before .before .before .before .before .before .before .loop in
-    let found = k .before .before .before .before .before .before .next in
-    let here = found .result .stream in
-    let room = step-room here (found .last .1 .0) (l .out) _ (step-read (l .s) here (l .out) (l .inv .6) (found .ensures .same)) (k .before .make-room .ensures .0) in
-    let told = c .before .before .stop .ensures in (
-      omega (arith, told .room, l .inv .1),
-      run-ends (found .result .mark) _ here (found .last .1 .0) room (found .ensures .mark) (ne-eqb (l .s .offset) 0 (λ e. omega (arith, e, l .inv .5))) (found .ensures .sure)
-          (omega (arith, found .ensures .same .place, k .before .before .before .before .before .before .before .before .before .if1 .taken)) (none-served (found .result .mark) (c .before .before .before .before .match .keys5)) (told .puts)
-          (omega (arith, k .before .make-room .ensures .1, l .inv .1)),
+    let l = c .before .before .before .before .before .before .before .before .before .before .before .before .before .before .before .before .before .loop in
+    turn-ends bench (state-of (l .device)) (l .s) (c .before .before .before .before .before .before .before .before .before .before .before .before .next .result) (l .out) 4200 (c .before .before .before .before .before .before .before .make-room .result) (l .inv .6) (c .before .before .before .before .before .before .before .before .before .before .before .before .next .ensures)
+    (c .before .before .before .before .before .before .before .make-room .ensures .0) (long (c .before .before .before .before .before .before .before .before .before .before .before .before)) (c .before .before .before .before .before .if2 .taken) (c .before .before .before .before .before .before .before .before .before .before .before .before .before .before .before .if1 .taken) refl (c .before .before .stop .ensures)
+    (omega (arith, roomy (c .before .before .before .before .before .before .before))) (l .inv .1)
+
+past-requires : tie.Need-past-requires Inv-loop μ-loop
+past-requires c κs =
+    let found = c .before .before .before .before .before .before .before .next .ensures in (
+      omega (arith, found .inside, found .same .fits .order, found .same .fits .input),
+      omega (arith, found .inside, found .same .fits .input, found .same .place, c .before .before .before .before .before .before .before .before .before .before .if1 .taken),
     )
 
+sub-mark : tie.Need-sub-mark Inv-loop μ-loop
+sub-mark c = ordered (c)
+
+part-mark-start : tie.Need-part-mark-start Inv-loop μ-loop
+part-mark-start c = omega (arith, ordered (c .before), inside (c .before))
+
+part-mark-end : tie.Need-part-mark-end Inv-loop μ-loop
+part-mark-end c = inside (c .before)
+
+mark-requires : tie.Need-mark-requires Inv-loop μ-loop
+mark-requires c κs =
+    let k = c .before .before in
+    let first = eqb (at-loop k .loop .s .offset) 0 in
+    mark-there (fixed Bench first) (size Bench) (sized Bench first) (bytes k) (this k)
+
+sub-command : tie.Need-sub-command Inv-loop μ-loop
+sub-command c = ordered (c .before .before .before .before)
+
+part-command-start : tie.Need-part-command-start Inv-loop μ-loop
+part-command-start c = omega (arith, ordered (c .before .before .before .before .before), inside (c .before .before .before .before .before))
+
+part-command-end : tie.Need-part-command-end Inv-loop μ-loop
+part-command-end c = inside (c .before .before .before .before .before)
+
+command-requires : tie.Need-command-requires Inv-loop μ-loop
+command-requires c κs =
+    let k = c .before .before .before .before .before .before .before .before in
+    let l = at-loop k .loop in (
+      l .inv .3,
+      command-long (l .s .offset) (bytes k) (l .inv .5) (this k) (named (c .before .before .before .before .before) 17229 (c .before .before .before .before .match .keys1)),
+      l .inv .2,
+      roomy (roomed k),
+    )
+
+sub-call-event : tie.Need-sub-call-event Inv-loop μ-loop
+sub-call-event c = ordered (c .before .before .before .before)
+
+part-call-event-start : tie.Need-part-call-event-start Inv-loop μ-loop
+part-call-event-start c = omega (arith, ordered (c .before .before .before .before .before), inside (c .before .before .before .before .before))
+
+part-call-event-end : tie.Need-part-call-event-end Inv-loop μ-loop
+part-call-event-end c = inside (c .before .before .before .before .before)
+
+call-event-requires : tie.Need-call-event-requires Inv-loop μ-loop
+call-event-requires c κs =
+    let k = c .before .before .before .before .before .before in
+    let l = at-loop k .loop in
+    (l .inv .3, event-long (l .s .offset) (bytes k) (l .inv .5) (this k) (named (c .before .before .before) 17750 (c .before .before .match .keys2)))
+
+put-event-requires : tie.Need-put-event-requires Inv-loop μ-loop
+put-event-requires c κs = roomy (c .before .before .before .before .before .before .before .before .before .before .before .before)
+
+sub-media : tie.Need-sub-media Inv-loop μ-loop
+sub-media c = ordered (c .before .before .before .before)
+
+part-media-start : tie.Need-part-media-start Inv-loop μ-loop
+part-media-start c = omega (arith, ordered (c .before .before .before .before .before), inside (c .before .before .before .before .before))
+
+part-media-end : tie.Need-part-media-end Inv-loop μ-loop
+part-media-end c = inside (c .before .before .before .before .before)
+
+media-requires : tie.Need-media-requires Inv-loop μ-loop
+media-requires c κs =
+    let k = c .before .before .before .before .before .before .before in
+    let l = at-loop k .loop in
+    (l .inv .3, media-long (l .s .offset) (bytes k) (l .inv .5) (this k) (named (c .before .before .before .before) 19780 (c .before .before .before .match .keys3)), roomy (roomed k))
+
+sub-line : tie.Need-sub-line Inv-loop μ-loop
+sub-line c = ordered (c .before .before .before .before)
+
+part-line-start : tie.Need-part-line-start Inv-loop μ-loop
+part-line-start c = omega (arith, ordered (c .before .before .before .before .before), inside (c .before .before .before .before .before))
+
+part-line-end : tie.Need-part-line-end Inv-loop μ-loop
+part-line-end c = inside (c .before .before .before .before .before)
+
+line-requires : tie.Need-line-requires Inv-loop μ-loop
+line-requires c κs =
+    let k = c .before .before .before .before .before .before .before in
+    let l = at-loop k .loop in
+    (l .inv .3, line-long (l .s .offset) (bytes k) (l .inv .5) (this k) (named (c .before .before .before .before) 19540 (c .before .before .before .match .keys4)), roomy (roomed k))
+
 loop-less : tie.Need-loop-less Inv-loop μ-loop
-loop-less c =
-    let k = c .before .before .before .before .before .before .before .before .before .before .before .before in
-    let found = k .before .before .before .before .before .before .next in
-    let enough = rw (c .before .before .before .before .before .before .before .before .before .before .enum-told .given .1) at (found .ensures .enough) in
-    omega (arith, enough, k .past .ensures .offset, found .ensures .same .place, k .before .before .before .before .before .before .before .before .before .if1 .taken)
+loop-less c = less (c .before .before .before .before .before .before .before .before .before .before .before .before .before .before)
 
 loop-again : tie.Need-loop-again Inv-loop μ-loop
 loop-again c =
-    let k = c .before .before .before .before .before .before .before .before .before .before .before .before in
-    let l = k .before .before .before .before .before .before .before .before .before .before .before .loop in
-    let found = k .before .before .before .before .before .before .next in
-    let here = found .result .stream in
-    let room = step-room here (found .last .1 .0) (l .out) _ (step-read (l .s) here (l .out) (l .inv .6) (found .ensures .same)) (k .before .make-room .ensures .0) in
-    let p = k .past .ensures in (
-      omega (arith, found .kept, l .inv .0),
-      omega (arith, c .before .before .before .before .before .command .kept .1 .1 .1 .0, l .inv .1),
-      omega (arith, c .before .before .before .before .before .command .kept .1 .1 .0, l .inv .2),
-      c .before .before .before .before .before .command .ensures .valid,
-      record {
-        order = omega (arith, p .at, p .end, found .ensures .inside, found .ensures .same .fits .order);
-        input = omega (arith, p .end, found .ensures .same .fits .input);
-        output = omega (arith, c .before .before .before .before .before .command .ensures .line .room, l .inv .1);
-      },
-      omega (arith, p .offset, found .ensures .same .place, l .inv .5),
-      step-serve Command here (k .past .result) (found .last .1 .0) room (this k Command (c .before .before .before .before .before .before .before .before .before .before .enum-told .given .1) (omega arith)) refl (found .ensures .same .fits)
-          (found .ensures .inside) (omega (arith, found .kept, l .inv .0)) p (c .before .before .before .before .before .command .ensures .next) (c .before .before .before .before .before .command .ensures .line .puts) (omega (arith, k .before .make-room .ensures .1, l .inv .1)),
+    let k = c .before .before .before .before .before .before .before .before .before .before .before .before .before .before in
+    let l = at-loop k .loop in
+    let call = c .before .before .before .before .before .command in
+    let turn = again k (serves-as (call .ensures) (by-command (state-of (l .device)) (bytes k) (named (c .before .before .before .before .before .before .before .before .before .before .before) 17229 (c .before .before .before .before .before .before .before .before .before .before .match .keys1)))) in (
+      long (looked k),
+      omega (arith, call .kept, l .inv .1),
+      omega (arith, call .kept, l .inv .2),
+      call .ensures .valid,
+      turn .0,
+      omega (arith, grows k),
+      turn .1,
     )
 
 loop-less-2 : tie.Need-loop-less-2 Inv-loop μ-loop
-loop-less-2 c =
-    let k = c .before .before .before .before .before .before .before .before .before .before in
-    let found = k .before .before .before .before .before .before .next in
-    let enough = rw (c .before .before .before .before .before .before .before .before .enum-told2 .given .1) at (found .ensures .enough) in
-    omega (arith, enough, k .past .ensures .offset, found .ensures .same .place, k .before .before .before .before .before .before .before .before .before .if1 .taken)
+loop-less-2 c = less (c .before .before .before .before .before .before .before .before .before .before .before .before)
 
 loop-again-2 : tie.Need-loop-again-2 Inv-loop μ-loop
 loop-again-2 c =
-    let k = c .before .before .before .before .before .before .before .before .before .before in
-    let l = k .before .before .before .before .before .before .before .before .before .before .before .loop in
-    let found = k .before .before .before .before .before .before .next in
-    let here = found .result .stream in
-    let room = step-room here (found .last .1 .0) (l .out) _ (step-read (l .s) here (l .out) (l .inv .6) (found .ensures .same)) (k .before .make-room .ensures .0) in
-    let served = event-served _ (c .before .before .before .before .before .call-event .ensures) (c .before .before .put-event .ensures) (omega (arith, k .before .make-room .ensures .1, l .inv .1)) in
-    let p = k .past .ensures in (
-      omega (arith, found .kept, l .inv .0),
+    let k = c .before .before .before .before .before .before .before .before .before .before .before .before in
+    let l = at-loop k .loop in
+    let call = c .before .before .before .before .before .call-event in
+    let served = event-served (bytes k) (call .ensures) (c .before .before .put-event .ensures) in
+    let turn = again k (serves-as served (by-event (state-of (l .device)) (bytes k) (named (c .before .before .before .before .before .before .before .before .before) 17750 (c .before .before .before .before .before .before .before .before .match .keys2)))) in (
+      long (looked k),
       omega (arith, c .before .before .put-event .kept, l .inv .1),
       l .inv .2,
-      served .valid,
-      record {
-        order = omega (arith, p .at, p .end, found .ensures .inside, found .ensures .same .fits .order);
-        input = omega (arith, p .end, found .ensures .same .fits .input);
-        output = omega (arith, served .line .room, l .inv .1);
-      },
-      omega (arith, p .offset, found .ensures .same .place, l .inv .5),
-      step-serve Event here (k .past .result) (found .last .1 .0) room (this k Event (c .before .before .before .before .before .before .before .before .enum-told2 .given .1) (omega arith)) refl (found .ensures .same .fits)
-          (found .ensures .inside) (omega (arith, found .kept, l .inv .0)) p (served .next) (served .line .puts) (omega (arith, k .before .make-room .ensures .1, l .inv .1)),
+      call .ensures .valid,
+      turn .0,
+      omega (arith, grows k),
+      turn .1,
     )
 
 loop-less-3 : tie.Need-loop-less-3 Inv-loop μ-loop
-loop-less-3 c =
-    let k = c .before .before .before .before .before .before .before .before .before in
-    let found = k .before .before .before .before .before .before .next in
-    let enough = rw (c .before .before .before .before .before .before .before .enum-told3 .given .1) at (found .ensures .enough) in
-    omega (arith, enough, k .past .ensures .offset, found .ensures .same .place, k .before .before .before .before .before .before .before .before .before .if1 .taken)
+loop-less-3 c = less (c .before .before .before .before .before .before .before .before .before .before .before)
 
 loop-again-3 : tie.Need-loop-again-3 Inv-loop μ-loop
 loop-again-3 c =
-    let k = c .before .before .before .before .before .before .before .before .before in
-    let l = k .before .before .before .before .before .before .before .before .before .before .before .loop in
-    let found = k .before .before .before .before .before .before .next in
-    let here = found .result .stream in
-    let room = step-room here (found .last .1 .0) (l .out) _ (step-read (l .s) here (l .out) (l .inv .6) (found .ensures .same)) (k .before .make-room .ensures .0) in
-    let p = k .past .ensures in (
-      omega (arith, found .kept, l .inv .0),
-      omega (arith, c .before .before .before .media .kept .1 .1 .0, l .inv .1),
+    let k = c .before .before .before .before .before .before .before .before .before .before .before in
+    let l = at-loop k .loop in
+    let call = c .before .before .before .media in
+    let turn = again k (serves-as (call .ensures) (by-media (state-of (l .device)) (bytes k) (named (c .before .before .before .before .before .before .before .before) 19780 (c .before .before .before .before .before .before .before .match .keys3)))) in (
+      long (looked k),
+      omega (arith, call .kept, l .inv .1),
       l .inv .2,
-      c .before .before .before .media .ensures .valid,
-      record {
-        order = omega (arith, p .at, p .end, found .ensures .inside, found .ensures .same .fits .order);
-        input = omega (arith, p .end, found .ensures .same .fits .input);
-        output = omega (arith, c .before .before .before .media .ensures .line .room, l .inv .1);
-      },
-      omega (arith, p .offset, found .ensures .same .place, l .inv .5),
-      step-serve Media here (k .past .result) (found .last .1 .0) room (this k Media (c .before .before .before .before .before .before .before .enum-told3 .given .1) (omega arith)) refl (found .ensures .same .fits)
-          (found .ensures .inside) (omega (arith, found .kept, l .inv .0)) p (c .before .before .before .media .ensures .next) (c .before .before .before .media .ensures .line .puts) (omega (arith, k .before .make-room .ensures .1, l .inv .1)),
+      call .ensures .valid,
+      turn .0,
+      omega (arith, grows k),
+      turn .1,
     )
 
 loop-less-4 : tie.Need-loop-less-4 Inv-loop μ-loop
-loop-less-4 c =
-    let k = c .before .before .before .before .before .before .before .before in
-    let found = k .before .before .before .before .before .before .next in
-    let enough = rw (c .before .before .before .before .before .before .enum-told4 .given .1) at (found .ensures .enough) in
-    omega (arith, enough, k .past .ensures .offset, found .ensures .same .place, k .before .before .before .before .before .before .before .before .before .if1 .taken)
+loop-less-4 c = less (c .before .before .before .before .before .before .before .before .before .before)
 
 loop-again-4 : tie.Need-loop-again-4 Inv-loop μ-loop
 loop-again-4 c =
-    let k = c .before .before .before .before .before .before .before .before in
-    let l = k .before .before .before .before .before .before .before .before .before .before .before .loop in
-    let found = k .before .before .before .before .before .before .next in
-    let here = found .result .stream in
-    let room = step-room here (found .last .1 .0) (l .out) _ (step-read (l .s) here (l .out) (l .inv .6) (found .ensures .same)) (k .before .make-room .ensures .0) in
-    let p = k .past .ensures in (
-      omega (arith, found .kept, l .inv .0),
-      omega (arith, c .before .before .line .kept .1 .1 .0, l .inv .1),
+    let k = c .before .before .before .before .before .before .before .before .before .before in
+    let l = at-loop k .loop in
+    let call = c .before .before .line in
+    let served = line-stays (bytes k) {d = l .device} (call .ensures) (l .inv .3) in
+    let turn = again k (serves-as served (by-line (state-of (l .device)) (bytes k) (named (c .before .before .before .before .before .before .before) 19540 (c .before .before .before .before .before .before .match .keys4)))) in (
+      long (looked k),
+      omega (arith, call .kept, l .inv .1),
       l .inv .2,
       l .inv .3,
-      record {
-        order = omega (arith, p .at, p .end, found .ensures .inside, found .ensures .same .fits .order);
-        input = omega (arith, p .end, found .ensures .same .fits .input);
-        output = omega (arith, c .before .before .line .ensures .room, l .inv .1);
-      },
-      omega (arith, p .offset, found .ensures .same .place, l .inv .5),
-      step-serve Line here (k .past .result) (found .last .1 .0) room (this k Line (c .before .before .before .before .before .before .enum-told4 .given .1) (omega arith)) refl (found .ensures .same .fits)
-          (found .ensures .inside) (omega (arith, found .kept, l .inv .0)) p (line-stays _ (state-of (l .device))) (c .before .before .line .ensures .puts) (omega (arith, k .before .make-room .ensures .1, l .inv .1)),
+      turn .0,
+      omega (arith, grows k),
+      turn .1,
     )
 
+loop-less-5 : tie.Need-loop-less-5 Inv-loop μ-loop
+loop-less-5 c = absurd (known (c))
+
+loop-again-5 : tie.Need-loop-again-5 Inv-loop μ-loop
+loop-again-5 c = absurd (known (c))
+
 same-length-4 : tie.Need-same-length-4 Inv-loop μ-loop
-same-length-4 c = search needs
+same-length-4 c = omega (arith, c .before .before .loop .inv .0, c .before .before .before .before .before .before .pre .3)
 
 same-length-5 : tie.Need-same-length-5 Inv-loop μ-loop
-same-length-5 c = search needs
+same-length-5 c = omega (arith, c .before .before .loop .inv .1, c .before .before .before .before .before .before .pre .4)
 
 same-length-6 : tie.Need-same-length-6 Inv-loop μ-loop
-same-length-6 c = search needs
+same-length-6 c = omega (arith, c .before .before .loop .inv .2, c .before .before .before .before .before .before .pre .5)
 
 returns-2 : tie.Need-returns-2 Inv-loop μ-loop
 returns-2 c =
     let l = c .before .before .loop in
-    (l .inv .4 .output, run-far (state-of (l .device)) (l .s) (l .input) (l .out) (l .inv .6) (c .if1 .left))
+    (l .inv .4 .output, run-far bench (state-of (l .device)) (l .s) (l .input) (l .out) (l .inv .6) (c .if1 .left))
 
 pub serve-spec : {M : Type 1} → statement M
 serve-spec =
@@ -321,33 +328,34 @@ serve-spec =
     loop-holds
     next-requires
     make-room-requires
-    past-requires
-    enum-told
-    sub-command
-    part-command-start
-    part-command-end
-    command-requires
-    enum-told-2
-    sub-call-event
-    part-call-event-start
-    part-call-event-end
-    call-event-requires
-    put-event-requires
-    enum-told-3
-    sub-media
-    part-media-start
-    part-media-end
-    media-requires
-    enum-told-4
-    sub-line
-    part-line-start
-    part-line-end
-    line-requires
+    sub-stop
     stop-requires
     same-length
     same-length-2
     same-length-3
     returns
+    past-requires
+    sub-mark
+    part-mark-start
+    part-mark-end
+    mark-requires
+    sub-command
+    part-command-start
+    part-command-end
+    command-requires
+    sub-call-event
+    part-call-event-start
+    part-call-event-end
+    call-event-requires
+    put-event-requires
+    sub-media
+    part-media-start
+    part-media-end
+    media-requires
+    sub-line
+    part-line-start
+    part-line-end
+    line-requires
     loop-less
     loop-again
     loop-less-2
@@ -356,6 +364,8 @@ serve-spec =
     loop-again-3
     loop-less-4
     loop-again-4
+    loop-less-5
+    loop-again-5
     same-length-4
     same-length-5
     same-length-6

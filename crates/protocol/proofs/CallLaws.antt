@@ -1,0 +1,46 @@
+-- The mailbox's answers said of a record's bytes; the reply in its buffer; a record served, by another name. Assumes nothing.
+use mathlib.Core.Path.{_≡_, sym, ap, subst}
+use mathlib.Core.List.{List}
+use Prim.Native.Nat.{ℕ, _-_, _≤_}
+use native.Mathlib.Omega.{arith}
+use lib.ListN.{length, take, drop, getD, length-drop, length-append}
+use lib.Seq.{take-all}
+use Rattle.wire.specs.Wire.{field, splice}
+use Rattle.mailbox.specs.declared.device.Device.{Device}
+use Rattle.mailbox.specs.declared.device.Made.{Made}
+use Rattle.mailbox.specs.declared.device.Answer.{Answer}
+use Rattle.mailbox.specs.declared.device_calls.MediaAnswer.{MediaAnswer}
+use Rattle.mailbox.specs.declared.device_calls.LineAnswer.{LineAnswer}
+use Rattle.mailbox.specs.State.{DeviceState, state-of}
+use Rattle.mailbox.specs.Outcome.{Outcome}
+use Rattle.mailbox.specs.DeviceCalls.{MakeOutcome, MediaOutcome, LineOutcome, make, media-report, line-test}
+use Rattle.mailbox.specs.Contracts.{Answered, Makes, MediaDone, LineDone}
+use Rattle.protocol.specs.declared.calls.Served.{Served}
+use Rattle.protocol.specs.Calls.{new-call, media-call, line-call}
+use Rattle.protocol.specs.Runs.{Printed}
+use Rattle.protocol.specs.Contracts.{Serves}
+
+-- all that comes after the first n elements
+pub rest-of : (n : ℕ) (xs : List ℕ) → take (length xs - n) (drop n xs) ≡ drop n xs
+rest-of n xs = take-all (length xs - n) (drop n xs) (rw length-drop (omega arith))
+
+-- the calls at the record's fields
+pub make-as : (bytes : List ℕ) (v p : ℕ) {r : Made} → Makes (make v p) r → v ≡ field bytes 2 2 → p ≡ field bytes 4 2 → Makes (new-call bytes) r
+make-as bytes v p {r} h ev ep = subst (λ (o : MakeOutcome). Makes o r) (λ i. make (ev i) (ep i)) h
+
+pub media-as : (bytes : List ℕ) (time address n kind : ℕ) {d : Device} {r : MediaAnswer} → MediaDone (media-report (state-of d) time address n kind) d r
+    → time ≡ field bytes 2 8 → address ≡ field bytes 10 8 → n ≡ field bytes 18 4 → kind ≡ getD bytes 22 0 → MediaDone (media-call (state-of d) bytes) d r
+media-as bytes time address n kind {d} {r} h et ea en ek = subst (λ (o : MediaOutcome). MediaDone o d r) (λ i. media-report (state-of d) (et i) (ea i) (en i) (ek i)) h
+
+pub line-as : (bytes : List ℕ) (address : ℕ) (d : Device) {r : LineAnswer} → LineDone (line-test (state-of d) address) r → address ≡ field bytes 2 8
+    → LineDone (line-call (state-of d) bytes) r
+line-as bytes address d {r} h ea = subst (λ (o : LineOutcome). LineDone o r) (λ i. line-test (state-of d) (ea i)) h
+
+-- the reply lies in the buffer
+pub reply-fits : {o : Outcome} {d : Device} {a : Answer} {before after : List ℕ} → Answered o d a before after → length after ≡ length before → a .length ≤ length after
+unfolding splice
+reply-fits told kept = omega (arith, told .size, simp length-append at (ap length (told .bytes)))
+
+-- a record served, by another name
+pub serves-as : {o p : Printed DeviceState} {used : ℕ} {r : Served} {before after : List ℕ} → Serves o used r before after → p ≡ o → Serves p used r before after
+serves-as {o} {p} {used} {r} {before} {after} h e = subst (λ (x : Printed DeviceState). Serves x used r before after) (sym e) h

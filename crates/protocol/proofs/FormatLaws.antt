@@ -1,0 +1,230 @@
+-- The sizes of the records of both programs: each fixed part by its mark, the whole record by its fixed part, how far both go, and what is known of a record
+-- found. Assumes nothing.
+use mathlib.Core.Path.{_≡_, refl, sym, ap, ap₂, subst, _∙_}
+use mathlib.Core.Bool.{Bool, true, false, _&&_}
+use mathlib.Core.List.{List}
+use Prim.Native.Nat.{ℕ, _+_, _*_, _≤_, _<_}
+use native.Mathlib.Decide.{decLe, ℕ-discrete}
+use native.Mathlib.Omega.{arith}
+use lib.Dec.{eqb, leb, lit≤}
+use lib.ListN.{length, take}
+use lib.Seq.{getD-take}
+use borrow.Author.Tests.{eq-eqb, ne-eqb, le-leb, lt-leb}
+use Rattle.wire.specs.Wire.{field}
+use Rattle.wire.proofs.Laws.{either}
+use Rattle.protocol.specs.declared.formats.Format.{Format}
+use Rattle.protocol.specs.declared.formats.Format.the-variants.{Bench, Probe}
+use Rattle.protocol.specs.Records.{mark-of, NW, CM, EV, MD, LT, ES, DT, front-size, OneRecord}
+use Rattle.protocol.specs.Formats.{bench-fixed, bench-size, probe-least, probe-fixed, within, probe-size, fixed, size, Head}
+use Rattle.protocol.proofs.StreamLaws.{field-front}
+use Rattle.protocol.proofs.RecordLaws.{Sized, fixed-part, mark-there}
+
+-- ---- fixed parts
+
+-- no later mark of `bench` but the four
+pub bench-none : (m : ℕ) → (m ≡ mark-of CM → ⊥) → (m ≡ mark-of EV → ⊥) → (m ≡ mark-of MD → ⊥) → (m ≡ mark-of LT → ⊥) → 0 ≡ bench-fixed false m
+unfolding bench-fixed
+bench-none m h₁ h₂ h₃ h₄ = rw (ne-eqb m (mark-of CM) h₁, ne-eqb m (mark-of EV) h₂, ne-eqb m (mark-of MD) h₃, ne-eqb m (mark-of LT) h₄) refl
+
+-- no mark of `probe` but the seven
+pub least-none : (m : ℕ) → (m ≡ mark-of NW → ⊥) → (m ≡ mark-of CM → ⊥) → (m ≡ mark-of EV → ⊥) → (m ≡ mark-of MD → ⊥) → (m ≡ mark-of LT → ⊥) → (m ≡ mark-of ES → ⊥) → (m ≡ mark-of DT → ⊥)
+    → 0 ≡ probe-least m
+unfolding probe-least
+least-none m h₁ h₂ h₃ h₄ h₅ h₆ h₇ =
+    rw (ne-eqb m (mark-of NW) h₁, ne-eqb m (mark-of CM) h₂, ne-eqb m (mark-of EV) h₃, ne-eqb m (mark-of MD) h₄, ne-eqb m (mark-of LT) h₅, ne-eqb m (mark-of ES) h₆, ne-eqb m (mark-of DT) h₇) refl
+
+-- the first record of either is a make
+fixed-new : (f : Format) → 6 ≡ fixed f true (mark-of NW)
+unfolding fixed bench-fixed probe-fixed probe-least
+fixed-new Bench = refl
+fixed-new Probe = refl
+
+pub fixed-first-none : (f : Format) (m : ℕ) → (m ≡ mark-of NW → ⊥) → 0 ≡ fixed f true m
+unfolding fixed bench-fixed probe-fixed
+fixed-first-none Bench m h = rw (ne-eqb m (mark-of NW) h) refl
+fixed-first-none Probe m h = rw (ne-eqb m (mark-of NW) h) refl
+
+-- a fixed part holds the mark, and no more than 139 bytes
+abbrev Good : ℕ → Type 0
+Good n = ((n ≡ 0 → ⊥) → 2 ≤ n) × (n ≤ 139)
+
+none : Good 0
+none = ((λ some. absurd (some refl)), lit≤ tt)
+
+some : (n : ℕ) → 2 ≤ n → n ≤ 139 → Good n
+some n h k = ((λ _. h), k)
+
+bench-good : (first : Bool) (m : ℕ) → Good (bench-fixed first m)
+unfolding bench-fixed
+bench-good true m = either Good (eqb m (mark-of NW)) (some 6 (lit≤ tt) (lit≤ tt)) none
+bench-good false m =
+    either Good (eqb m (mark-of CM)) (some 14 (lit≤ tt) (lit≤ tt))
+    (either Good (eqb m (mark-of EV)) (some 139 (lit≤ tt) (lit≤ tt))
+    (either Good (eqb m (mark-of MD)) (some 23 (lit≤ tt) (lit≤ tt))
+    (either Good (eqb m (mark-of LT)) (some 10 (lit≤ tt) (lit≤ tt)) none)))
+
+least-good : (m : ℕ) → Good (probe-least m)
+unfolding probe-least
+least-good m =
+    either Good (eqb m (mark-of NW)) (some 6 (lit≤ tt) (lit≤ tt))
+    (either Good (eqb m (mark-of CM)) (some 17 (lit≤ tt) (lit≤ tt))
+    (either Good (eqb m (mark-of EV)) (some 13 (lit≤ tt) (lit≤ tt))
+    (either Good (eqb m (mark-of MD)) (some 23 (lit≤ tt) (lit≤ tt))
+    (either Good (eqb m (mark-of LT)) (some 10 (lit≤ tt) (lit≤ tt))
+    (either Good (eqb m (mark-of ES)) (some 2 (lit≤ tt) (lit≤ tt))
+    (either Good (eqb m (mark-of DT)) (some 2 (lit≤ tt) (lit≤ tt)) none))))))
+
+pub fixed-good : (f : Format) (first : Bool) (m : ℕ) → Good (fixed f first m)
+unfolding fixed probe-fixed
+fixed-good Bench first m = bench-good first m
+fixed-good Probe true m = either Good (eqb m (mark-of NW)) (least-good m) none
+fixed-good Probe false m = least-good m
+
+-- the mark of a first record
+first-new : (f : Format) (m : ℕ) → (fixed f true m ≡ 0 → ⊥) → m ≡ mark-of NW
+first-new f m may = go (ℕ-discrete m (mark-of NW))
+  where
+    go : Dec (m ≡ mark-of NW) → m ≡ mark-of NW
+    go (yes e) = e
+    go (no h) = absurd (may (sym (fixed-first-none f m h)))
+
+-- a fixed part holds the fields that a later record of its mark has
+fixed-fields : (f : Format) (first : Bool) (m : ℕ) → (fixed f first m ≡ 0 → ⊥) → fixed f false m ≤ fixed f first m
+unfolding fixed bench-fixed probe-fixed probe-least
+fixed-fields f false m may = omega arith
+fixed-fields f true m may = subst (λ (k : ℕ). fixed f false k ≤ fixed f true k) (sym (first-new f m may)) (new f)
+  where
+    new : (f : Format) → fixed f false (mark-of NW) ≤ fixed f true (mark-of NW)
+    new Bench = lit≤ tt
+    new Probe = lit≤ tt
+
+-- bytes found, as many as the fixed part of their mark has
+pub head-of : (f : Format) (first : Bool) (h : List ℕ) (m n : ℕ) → n ≡ fixed f first m → (n ≡ 0 → ⊥) → length h ≡ n → mark-of h ≡ m → Head f h
+head-of f first h m n e may long same =
+    let may' : fixed f first m ≡ 0 → ⊥ = λ z. may (e ∙ z) in
+    let good = fixed-good f first m in
+    record {
+      marked = omega (arith, long, e, good .0 may');
+      fields = omega (arith, long, e, fixed-fields f first m may', ap (fixed f false) same);
+      most = omega (arith, long, e, good .1);
+    }
+
+-- such bytes of some mark have its fields
+pub head-long : (f : Format) (h : List ℕ) (m : ℕ) → Head f h → mark-of h ≡ m → fixed f false m ≤ length h
+head-long f h m head e = subst (λ (k : ℕ). fixed f false k ≤ length h) e (head .fields)
+
+-- ---- whole records of `bench`
+
+pub bench-plain : (h : List ℕ) → (mark-of h ≡ mark-of CM → ⊥) → length h ≡ bench-size h
+unfolding bench-size
+bench-plain h e = sym (rw (ne-eqb (mark-of h) (mark-of CM) e))
+
+pub bench-over : (h : List ℕ) → mark-of h ≡ mark-of CM → 2048 < field h 12 2 → 0 ≡ bench-size h
+unfolding bench-size
+bench-over h e long = sym (rw (eq-eqb (mark-of h) (mark-of CM) e, lt-leb (field h 12 2) 2048 long))
+
+pub bench-command : (h : List ℕ) → mark-of h ≡ mark-of CM → field h 12 2 ≤ 2048 → length h + field h 12 2 ≡ bench-size h
+unfolding bench-size
+bench-command h e short = sym (rw (eq-eqb (mark-of h) (mark-of CM) e, le-leb (field h 12 2) 2048 short))
+
+-- ---- whole records of `probe`
+
+-- a command's, by its room and its payload's length
+module _ (h : List ℕ) (command : mark-of h ≡ mark-of CM) where
+  pub room-over : 4096 < field h 12 2 → 0 ≡ probe-size h
+  unfolding probe-size
+  room-over long = sym (rw (eq-eqb (mark-of h) (mark-of CM) command, lt-leb (field h 12 2) 4096 long) refl)
+
+  pub payload-over : field h 12 2 ≤ 4096 → 4096 < field h 15 2 → 0 ≡ probe-size h
+  unfolding probe-size
+  payload-over few long = sym (rw (eq-eqb (mark-of h) (mark-of CM) command, le-leb (field h 12 2) 4096 few, lt-leb (field h 15 2) 4096 long) refl)
+
+  pub command-sized : field h 12 2 ≤ 4096 → field h 15 2 ≤ 4096 → length h + field h 15 2 ≡ probe-size h
+  unfolding probe-size
+  command-sized few few' = sym (rw (eq-eqb (mark-of h) (mark-of CM) command, le-leb (field h 12 2) 4096 few, le-leb (field h 15 2) 4096 few') refl)
+
+  room-within : (probe-size h ≡ 0 → ⊥) → field h 12 2 ≤ 4096
+  room-within some = go (decLe (field h 12 2) 4096)
+    where
+      go : Dec (field h 12 2 ≤ 4096) → field h 12 2 ≤ 4096
+      go (yes p) = p
+      go (no p) = absurd (some (sym (room-over (omega arith))))
+
+-- an event's, by its record's length
+module _ (h : List ℕ) (event : mark-of h ≡ mark-of EV) where
+  other : mark-of h ≡ mark-of CM → ⊥
+  other e = omega (arith, e, event)
+
+  pub event-over : 4096 < field h 11 2 → 0 ≡ probe-size h
+  unfolding probe-size
+  event-over long = sym (rw (ne-eqb (mark-of h) (mark-of CM) other, eq-eqb (mark-of h) (mark-of EV) event, lt-leb (field h 11 2) 4096 long) refl)
+
+  pub event-sized : field h 11 2 ≤ 4096 → length h + field h 11 2 ≡ probe-size h
+  unfolding probe-size
+  event-sized few = sym (rw (ne-eqb (mark-of h) (mark-of CM) other, eq-eqb (mark-of h) (mark-of EV) event, le-leb (field h 11 2) 4096 few) refl)
+
+-- any other's
+pub probe-plain : (h : List ℕ) → (mark-of h ≡ mark-of CM → ⊥) → (mark-of h ≡ mark-of EV → ⊥) → length h ≡ probe-size h
+unfolding probe-size
+probe-plain h command event = sym (rw (ne-eqb (mark-of h) (mark-of CM) command, ne-eqb (mark-of h) (mark-of EV) event) refl)
+
+-- ---- records of either
+
+-- a record holds its fixed part
+module _ (h : List ℕ) where
+  abbrev Headed : ℕ → Type 0
+  Headed n = (n ≡ 0 → ⊥) → length h ≤ n
+
+  over : Headed 0
+  over some = absurd (some refl)
+
+  alone : Headed (length h)
+  alone _ = omega arith
+
+  longer : (n : ℕ) → Headed (length h + n)
+  longer n _ = omega arith
+
+  size-headed : (f : Format) → Headed (size f h)
+  unfolding size bench-size probe-size
+  size-headed Bench = either Headed (eqb (mark-of h) (mark-of CM)) (either Headed (leb (field h 12 2) 2048) (longer (field h 12 2)) over) alone
+  size-headed Probe =
+      either Headed (eqb (mark-of h) (mark-of CM)) (either Headed (within (field h 12 2) && within (field h 15 2)) (longer (field h 15 2)) over)
+      (either Headed (eqb (mark-of h) (mark-of EV)) (either Headed (within (field h 11 2)) (longer (field h 11 2)) over) alone)
+
+-- the sizes of either: a fixed part holds the mark, and a record its fixed part
+pub sized : (f : Format) (first : Bool) → Sized (fixed f first) (size f)
+sized f first = record { marked = λ m. fixed-good f first m .0; headed = λ h. size-headed h f }
+
+-- a first record that was found
+pub new-there : (f : Format) (r : List ℕ) → OneRecord (front-size (fixed f true) (size f)) r → 6 ≤ length r
+new-there f r this =
+    let part = fixed-part (fixed f true) (size f) (sized f true) r this in
+    omega (arith, part .1, fixed-new f, ap (fixed f true) (first-new f (mark-of r) (part .0)))
+
+-- any record that was found has the fields of its mark
+pub fields-there : (f : Format) (first : Bool) (r : List ℕ) → OneRecord (front-size (fixed f first) (size f)) r → (m : ℕ) → mark-of r ≡ m → fixed f false m ≤ length r
+fields-there f first r this m e =
+    let part = fixed-part (fixed f first) (size f) (sized f first) r this in
+    omega (arith, part .1, fixed-fields f first (mark-of r) (part .0), ap (fixed f false) e)
+
+-- no later record of `bench` has another mark
+pub bench-marks : (r : List ℕ) → OneRecord (front-size (fixed Bench false) (size Bench)) r
+    → (mark-of r ≡ mark-of CM → ⊥) → (mark-of r ≡ mark-of EV → ⊥) → (mark-of r ≡ mark-of MD → ⊥) → (mark-of r ≡ mark-of LT → ⊥) → ⊥
+unfolding fixed
+bench-marks r this c v d l = fixed-part (fixed Bench false) (size Bench) (sized Bench false) r this .0 (sym (bench-none (mark-of r) c v d l))
+
+-- a record of `probe` has its mark and its fields, and a command's room is within its limit
+pub ready : (first : Bool) (r : List ℕ) → OneRecord (front-size (fixed Probe first) (size Probe)) r
+    → (2 ≤ length r) × (probe-least (mark-of r) ≤ length r) × (mark-of r ≡ mark-of CM → field r 12 2 ≤ 4096)
+unfolding fixed size probe-fixed probe-least
+ready first r this = (mark-there (fixed Probe first) (size Probe) (sized Probe first) r this, fields-there Probe first r this (mark-of r) refl, room)
+  where
+    room : mark-of r ≡ mark-of CM → field r 12 2 ≤ 4096
+    room command =
+        let part = fixed-part (fixed Probe first) (size Probe) (sized Probe first) r this in
+        let n = fixed Probe first (mark-of r) in
+        let wide : 17 ≤ n = subst (λ (m : ℕ). fixed Probe false m ≤ n) command (fixed-fields Probe first (mark-of r) (part .0)) in
+        let head = take n r in
+        let letters : mark-of head ≡ mark-of r = ap₂ (λ (a b : ℕ). a * 256 + b) (getD-take n r 0 0 (omega arith)) (getD-take n r 1 0 (omega arith)) in
+        let few : field head 12 2 ≤ 4096 = room-within head (letters ∙ command) (λ e. omega (arith, e, part .2, this .some)) in
+        omega (arith, few, field-front n 12 2 r head refl (omega arith) (part .1))

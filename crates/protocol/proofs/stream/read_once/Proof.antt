@@ -1,0 +1,54 @@
+-- `protocol::stream::read_once` meets its contract: only what lies from the end on is lent to the system. Assumes nothing.
+use Prim.Native.Nat.{_-_}
+use borrow.Author.Needs.{needs}
+use borrow.Rule.Slice.PartMut.{take-put}
+use lib.ListN.{length}
+use Rattle.protocol.proofs.stream.read_once.Statement.{statement}
+use Rattle.protocol.proofs.stream.read_once.Tie as tie
+
+sub-read : tie.Need-sub-read
+sub-read c = search needs
+
+part-read-start : tie.Need-part-read-start
+part-read-start c = search needs
+
+part-read-end : tie.Need-part-read-end
+part-read-end c = search needs
+
+read-requires : tie.Need-read-requires
+read-requires c κs = search needs
+
+sub-count : tie.Need-sub-count
+sub-count c = search needs
+
+part-count-start : tie.Need-part-count-start
+part-count-start c = search needs
+
+part-count-end : tie.Need-part-count-end
+part-count-end c = search needs
+
+count-requires : tie.Need-count-requires
+count-requires c κs = search needs
+
+same-length : tie.Need-same-length
+same-length c = search needs
+
+returns : tie.Need-returns
+returns c =
+    let s = c .before .before .before .before .before .before .before .before in
+    record { more = search needs; fits = search needs; kept = take-put (s .args .end) (length (s .args .input .now) - s .args .end) (s .args .input .now) (c .before .before .before .before .before .read .last .1 .0) (s .pre) }
+
+pub read-once-spec : {M : Type 1} → statement M
+read-once-spec =
+    tie.close
+    (tie.spec
+    sub-read
+    part-read-start
+    part-read-end
+    read-requires
+    sub-count
+    part-count-start
+    part-count-end
+    count-requires
+    same-length
+    returns)

@@ -1,0 +1,161 @@
+// The records of each program (document 01, "Bench program"; document 10, "Records of the base"): how long each is, and the next one brought whole into
+// the input buffer.
+use crate::records;
+use crate::records::Found;
+use crate::stream::Stream;
+ghost use mathlib.Core.Path.{_≡_};
+ghost use Prim.Native.Nat.{_≤_};
+ghost use lib.Dec.{eqb};
+ghost use lib.ListN.{length};
+ghost use Rattle.protocol.specs.declared.formats.Format.the-variants.{Bench, Probe};
+ghost use Rattle.protocol.specs.Stream.{Fits};
+ghost use Rattle.protocol.specs.Records.{mark-of, CM, EV, front-size};
+ghost use Rattle.protocol.specs.Formats.{bench-fixed, bench-size, probe-least, probe-fixed, probe-size, fixed, size, Head};
+ghost use Rattle.protocol.specs.Contracts.{Finds};
+
+// Whose records they are.
+pub enum Format {
+    Bench,
+    Probe,
+}
+
+// Of `bench`: the bytes of a record's fixed part, its mark with them; 0 where no record of that mark may stand. NW comes first and once.
+fn bench_fixed(first: bool, mark: u64) -> usize
+    ensures { λ r. ⌜ r ≡ bench-fixed first mark ⌝ }
+{
+    if first {
+        return if mark == 0x4E57 { 6 } else { 0 };
+    }
+    match mark {
+        0x434D => 14,
+        0x4556 => 139,
+        0x4D44 => 23,
+        0x4C54 => 10,
+        _ => 0,
+    }
+}
+
+// Of `bench`: the bytes of a record that begins so; 0 where its payload is too long.
+fn bench_size(head: &[u8]) -> usize
+    requires { ⌜ Head Bench (now head) ⌝ }
+    ensures { λ r. ⌜ (r ≡ bench-size (now (head .entry))) × (r ≤ 65536) ⌝ }
+{
+    let fixed = head.len();
+    if records::mark(head) != 0x434D {
+        return fixed;
+    }
+    let payload = wire::get(head, 12, 2) as usize;
+    if 2048 < payload {
+        return 0;
+    }
+    fixed + payload
+}
+
+// Of `probe`: the bytes of a record's fixed part, its mark with them; 0 for an unknown mark.
+fn probe_least(mark: u64) -> usize
+    ensures { λ r. ⌜ r ≡ probe-least mark ⌝ }
+{
+    match mark {
+        0x4E57 => 6,
+        0x434D => 17,
+        0x4556 => 13,
+        0x4D44 => 23,
+        0x4C54 => 10,
+        0x4553 => 2,
+        0x4454 => 2,
+        _ => 0,
+    }
+}
+
+// The same, where the first record must be a make.
+fn probe_fixed(first: bool, mark: u64) -> usize
+    ensures { λ r. ⌜ r ≡ probe-fixed first mark ⌝ }
+{
+    if first {
+        return if mark == 0x4E57 { 6 } else { 0 };
+    }
+    probe_least(mark)
+}
+
+// Of `probe`: the bytes of a command's record that begins so; 0 where its room or its payload is too long.
+fn command_size(head: &[u8]) -> usize
+    requires { ⌜ Head Probe (now head) × (mark-of (now head) ≡ mark-of CM) ⌝ }
+    ensures { λ r. ⌜ (r ≡ probe-size (now (head .entry))) × (r ≤ 65536) ⌝ }
+{
+    let room = wire::get(head, 12, 2) as usize;
+    let payload = wire::get(head, 15, 2) as usize;
+    if 4096 < room {
+        return 0;
+    }
+    if 4096 < payload {
+        return 0;
+    }
+    head.len() + payload
+}
+
+// Of `probe`: the bytes of an event's record that begins so; 0 where the event record in it is too long.
+fn event_size(head: &[u8]) -> usize
+    requires { ⌜ Head Probe (now head) × (mark-of (now head) ≡ mark-of EV) ⌝ }
+    ensures { λ r. ⌜ (r ≡ probe-size (now (head .entry))) × (r ≤ 65536) ⌝ }
+{
+    let length = wire::get(head, 11, 2) as usize;
+    if 4096 < length {
+        return 0;
+    }
+    head.len() + length
+}
+
+// Of `probe`: the bytes of a record that begins so; 0 where a size in it is over its limit.
+fn probe_size(head: &[u8]) -> usize
+    requires { ⌜ Head Probe (now head) ⌝ }
+    ensures { λ r. ⌜ (r ≡ probe-size (now (head .entry))) × (r ≤ 65536) ⌝ }
+{
+    match records::mark(head) {
+        0x434D => command_size(head),
+        0x4556 => event_size(head),
+        _ => head.len(),
+    }
+}
+
+// The bytes of a record's fixed part; 0 where no record of that mark may stand.
+fn fixed_size(format: Format, first: bool, mark: u64) -> usize
+    ensures { λ r. ⌜ r ≡ fixed format first mark ⌝ }
+{
+    match format {
+        Format::Bench => bench_fixed(first, mark),
+        Format::Probe => probe_fixed(first, mark),
+    }
+}
+
+// The bytes of a record that begins so; 0 where a size in it is over its limit.
+fn whole_size(format: Format, head: &[u8]) -> usize
+    requires { ⌜ Head format (now head) ⌝ }
+    ensures { λ r. ⌜ (r ≡ size format (now (head .entry))) × (r ≤ 65536) ⌝ }
+{
+    match format {
+        Format::Bench => bench_size(head),
+        Format::Probe => probe_size(head),
+    }
+}
+
+// The next record.
+pub fn next(format: Format, s: Stream, input: &mut [u8], out: &[u8]) -> Found
+    requires { ⌜ Fits s × (length (now input) ≡ 65536) × (length (now out) ≡ 65536) ⌝ }
+    ensures { λ r. ⌜ Finds (front-size (fixed format (eqb (s .offset) 0)) (size format)) s r (now (input .entry)) (now (input .exit)) ⌝ }
+{
+    let marked = s.whole(input, out, 2);
+    if marked.size == 0 {
+        return marked;
+    }
+    let here = marked.stream;
+    let at = here.at;
+    let fixed = fixed_size(format, s.offset == 0, records::mark(&input[at..at + 2]));
+    let head = here.whole(input, out, fixed);
+    if head.size == 0 {
+        return head;
+    }
+    let there = head.stream;
+    let from = there.at;
+    let size = whole_size(format, &input[from..from + fixed]);
+    there.whole(input, out, size)
+}
