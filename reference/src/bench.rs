@@ -1,27 +1,27 @@
 //! Document 01 "Bench program": records in, a line for each out.
 
+use crate::device::numbers::number_of;
 use crate::device::{Config, Device};
-use crate::stream::{Next, Reader, Record};
+pub use crate::line::push_hex;
+use crate::line::Line;
+use crate::source;
+use crate::stream::{Reader, Record};
 use std::io::{self, BufRead, Write};
 
 /// Runs a stream and writes the lines. One record is in memory at a time.
 pub fn run(input: impl BufRead, output: &mut impl Write, config: Config) -> io::Result<()> {
     let mut reader = Reader::new(input);
     let mut bench = Bench::new(config);
-    loop {
-        match reader.next_record()? {
-            Next::Record(_, record) => {
-                let going = bench.step(&record);
-                output.write_all(bench.line.as_bytes())?;
-                // "A refused NW prints and stops."
-                if !going {
-                    return Ok(());
-                }
-            }
-            Next::Bad(offset) => return writeln!(output, "BAD {offset}"),
-            Next::End => return Ok(()),
-        }
-    }
+    source::each(
+        || reader.next_record(),
+        output,
+        |record, output| {
+            // "A refused NW prints and stops."
+            let going = bench.step(&record);
+            output.write_all(bench.line.as_bytes())?;
+            Ok(going)
+        },
+    )
 }
 
 /// The lines a stream gives, as one text.
@@ -36,7 +36,7 @@ pub struct Bench {
     config: Config,
     device: Device,
     /// The line of the last step, with its line end.
-    pub line: String,
+    pub line: Line,
 }
 
 impl Bench {
@@ -45,19 +45,13 @@ impl Bench {
         Bench {
             config,
             device: Device::make(1, 0, config).1,
-            line: String::new(),
+            line: Line::default(),
         }
-    }
-
-    /// The device as it is.
-    pub fn device(&self) -> &Device {
-        &self.device
     }
 
     /// Runs one record and sets `line`; false after a refused NW.
     pub fn step(&mut self, record: &Record) -> bool {
-        self.line.clear();
-        self.line.push_str(record.mark());
+        self.line.begin(record.mark());
         let mut going = true;
         match record {
             Record::New {
@@ -67,7 +61,7 @@ impl Bench {
                 let (answer, device) = Device::make(*volatile, *persistent, self.config);
                 self.device = device;
                 going = answer.is_ok();
-                self.number(answer.err().map_or(0, |refusal| refusal.number()).into());
+                self.line.number(number_of(&answer));
             }
             Record::Command {
                 time,
@@ -76,20 +70,18 @@ impl Bench {
             } => match self.device.answer(*opcode, payload, *time) {
                 // "for CM the length and lower-case hex (none if length 0)"
                 Ok(reply) => {
-                    self.number(0);
-                    self.number(reply.len() as u128);
-                    self.hex(&reply);
+                    self.line.numbers([0, reply.len() as u128]);
+                    if !reply.is_empty() {
+                        self.line.hex(&reply);
+                    }
                 }
-                Err(refusal) => {
-                    self.number(refusal.number().into());
-                    self.number(0);
-                }
+                Err(refusal) => self.line.numbers([refusal.number().into(), 0]),
             },
             // "A refused EV, MD or LT prints mark and code only."
             Record::Event { time, log, record } => {
                 match self.device.event_report(*log, record, *time) {
-                    Ok(stored) => self.numbers([0, u128::from(stored)]),
-                    Err(refusal) => self.number(refusal.number().into()),
+                    Ok(stored) => self.line.numbers([0, u128::from(stored)]),
+                    Err(refusal) => self.line.number(refusal.number()),
                 }
             }
             Record::Media {
@@ -100,46 +92,19 @@ impl Bench {
             } => {
                 let lines = u64::from(*lines);
                 match self.device.media_report(*address, lines, *kind, *time) {
-                    Ok((stored, dropped)) => self.numbers([0, stored, dropped]),
-                    Err(refusal) => self.number(refusal.number().into()),
+                    Ok((stored, dropped)) => self.line.numbers([0, stored, dropped]),
+                    Err(refusal) => self.line.number(refusal.number()),
                 }
             }
             Record::Line { address } => match self.device.line_test(*address) {
                 Ok(answer) => {
                     let (answer, kind) = answer.numbers();
-                    self.numbers([0, answer.into(), kind.into()]);
+                    self.line.numbers([0, answer.into(), kind.into()]);
                 }
-                Err(refusal) => self.number(refusal.number().into()),
+                Err(refusal) => self.line.number(refusal.number()),
             },
         }
-        self.line.push('\n');
+        self.line.end();
         going
-    }
-
-    fn number(&mut self, number: u128) {
-        self.line.push(' ');
-        self.line.push_str(&number.to_string());
-    }
-
-    fn numbers<const N: usize>(&mut self, numbers: [u128; N]) {
-        for number in numbers {
-            self.number(number);
-        }
-    }
-
-    fn hex(&mut self, bytes: &[u8]) {
-        if !bytes.is_empty() {
-            self.line.push(' ');
-            push_hex(&mut self.line, bytes);
-        }
-    }
-}
-
-/// Lower-case hex of `bytes`, appended.
-pub fn push_hex(out: &mut String, bytes: &[u8]) {
-    const DIGITS: &[u8; 16] = b"0123456789abcdef";
-    for byte in bytes {
-        out.push(char::from(DIGITS[usize::from(byte >> 4)]));
-        out.push(char::from(DIGITS[usize::from(byte & 15)]));
     }
 }

@@ -1,22 +1,20 @@
 //! `compare`: generated streams through another program and through the model,
 //! line by line.
 
-use crate::bench;
-use crate::case::words::{hex_text, record_words};
+use crate::case::words::{hex_text, line_words};
+use crate::device::fault::FaultLine;
 use crate::device::Config;
+use crate::format::Format;
 use crate::generate::{profile_named, profile_of, Profile};
-use crate::stream::{Next, Reader};
+use crate::source::Next;
 use std::io::{Read, Write};
 use std::process::{Child, Command, ExitStatus, Stdio};
 use std::sync::mpsc;
 use std::time::{Duration, Instant};
 
-/// The program that is compared with the model.
-pub enum Subject {
-    /// A child process: path and arguments.
-    Program(Vec<String>),
-    /// The model itself with another configuration (planted faults).
-    Model(Config),
+/// The program that is compared with the model: path and arguments.
+pub struct Subject {
+    words: Vec<String>,
 }
 
 impl Subject {
@@ -24,17 +22,21 @@ impl Subject {
     /// between them.
     pub fn program(text: &str) -> Subject {
         if std::path::Path::new(text).exists() {
-            return Subject::Program(vec![text.to_string()]);
+            return Subject::words(&[text]);
         }
-        Subject::Program(text.split_whitespace().map(str::to_string).collect())
+        Subject::words(&text.split_whitespace().collect::<Vec<_>>())
+    }
+
+    /// A program given as words: a path and its arguments.
+    pub fn words(words: &[&str]) -> Subject {
+        Subject {
+            words: words.iter().map(|word| word.to_string()).collect(),
+        }
     }
 
     /// Its output for a stream, or what went wrong.
     pub fn output(&self, stream: Vec<u8>, timeout: Duration) -> Result<Vec<u8>, String> {
-        match self {
-            Subject::Model(config) => Ok(bench::lines_of(&stream, *config)),
-            Subject::Program(words) => run_child(words, stream, timeout),
-        }
+        run_child(&self.words, stream, timeout)
     }
 }
 
@@ -93,6 +95,7 @@ fn end_of(child: &mut Child, deadline: Instant) -> Result<Option<ExitStatus>, St
 
 /// What to compare.
 pub struct Plan {
+    pub format: Format,
     pub seeds: std::ops::Range<u64>,
     pub profile: Option<String>,
     pub timeout: Duration,
@@ -102,28 +105,23 @@ pub struct Plan {
 fn streams(plan: &Plan) -> Vec<(u64, &'static Profile, usize)> {
     let mut all = Vec::new();
     for seed in plan.seeds.clone() {
-        let named = plan.profile.as_deref().and_then(profile_named);
-        let profile = named.unwrap_or_else(|| profile_of(seed));
+        let named = plan.profile.as_deref();
+        let named = named.and_then(|name| profile_named(plan.format, name));
+        let profile = named.unwrap_or_else(|| profile_of(plan.format, seed));
         all.extend((0..profile.streams()).map(|part| (seed, profile, part)));
     }
     all
 }
 
-/// Runs a plan; `say` gets each difference. Returns streams passed and failed,
-/// and stops at the first difference if asked.
-pub fn run(
-    plan: &Plan,
-    subject: &Subject,
-    stop_at_first: bool,
-    say: &mut dyn FnMut(String),
-) -> (usize, usize) {
+/// Runs a plan; `say` gets each difference. Returns streams passed and failed.
+pub fn run(plan: &Plan, subject: &Subject, say: &mut dyn FnMut(String)) -> (usize, usize) {
     let (mut passed, mut failed) = (0, 0);
     for (seed, profile, part) in streams(plan) {
-        let stream = profile.stream(seed, part, None);
-        let expected = bench::lines_of(&stream, Config::default());
+        let stream = profile.stream_of(plan.format, seed, part, None);
+        let expected = plan.format.lines_of(&stream, Config::default());
         let difference = match subject.output(stream.clone(), plan.timeout) {
             Ok(came) if came == expected => None,
-            Ok(came) => Some(difference(&stream, &expected, &came)),
+            Ok(came) => Some(difference(plan.format, &stream, &expected, &came)),
             Err(error) => Some(format!("  {error}")),
         };
         let Some(difference) = difference else {
@@ -131,19 +129,40 @@ pub fn run(
             continue;
         };
         failed += 1;
-        say(format!(
-            "seed {seed}, profile {}, stream {part}\n{difference}",
-            profile.name
-        ));
-        if stop_at_first {
-            break;
-        }
+        let place = place_words(seed, profile, part);
+        say(format!("{place}\n{difference}"));
     }
     (passed, failed)
 }
 
+fn place_words(seed: u64, profile: &Profile, part: usize) -> String {
+    format!("seed {seed}, profile {}, stream {part}", profile.name)
+}
+
+/// For each fault the first stream of the plan whose lines differ with it, if
+/// there is one. A stream is made once for all faults not yet found.
+pub fn find_faults(plan: &Plan, faults: &[&FaultLine]) -> Vec<Option<String>> {
+    let mut found = vec![None; faults.len()];
+    for (seed, profile, part) in streams(plan) {
+        if found.iter().all(Option::is_some) {
+            break;
+        }
+        let stream = profile.stream_of(plan.format, seed, part, None);
+        let expected = plan.format.lines_of(&stream, Config::default());
+        for (line, found) in faults.iter().zip(&mut found) {
+            let faulty = Config {
+                fault: Some(line.fault),
+            };
+            if found.is_none() && plan.format.lines_of(&stream, faulty) != expected {
+                *found = Some(place_words(seed, profile, part));
+            }
+        }
+    }
+    found
+}
+
 /// The first line that differs, with the record it answers.
-pub fn difference(stream: &[u8], expected: &[u8], came: &[u8]) -> String {
+pub fn difference(format: Format, stream: &[u8], expected: &[u8], came: &[u8]) -> String {
     let (expected, came) = (split_lines(expected), split_lines(came));
     let same = expected.iter().zip(&came).take_while(|(a, b)| a == b);
     let number = same.count();
@@ -151,38 +170,48 @@ pub fn difference(stream: &[u8], expected: &[u8], came: &[u8]) -> String {
         Some(line) => String::from_utf8_lossy(line).trim_end().to_string(),
         None => "no line".to_string(),
     };
-    let mut reader = Reader::new(stream);
-    let mut record = "after the last record".to_string();
-    for at in 0..=number {
-        record = match reader.next_record() {
-            Ok(Next::Record(offset, record)) => format!(
-                "record {} at offset {offset}: {}",
-                at + 1,
-                record_words(&record)
-            ),
-            Ok(Next::Bad(offset)) => {
-                let from = offset as usize;
-                let rest = &stream[from..stream.len().min(from + 24)];
-                format!(
-                    "record {} at offset {offset}, bad: bytes {}",
-                    at + 1,
-                    hex_text(rest)
-                )
-            }
-            _ => break,
-        };
-    }
+    let record = match words_of_record(format, stream, number) {
+        Next::Record(offset, words) => format!("record {} at offset {offset}: {words}", number + 1),
+        Next::Bad(offset) => {
+            let from = offset as usize;
+            let rest = hex_text(&stream[from..stream.len().min(from + 24)]);
+            format!(
+                "record {} at offset {offset}, bad: bytes {rest}",
+                number + 1
+            )
+        }
+        Next::End => "after the last record".to_string(),
+    };
     let (expected, came) = (shown(&expected), shown(&came));
     let byte = reply_byte(&expected, &came);
     format!("  {record}\n  expected: {expected}\n  came:     {came}{byte}")
 }
 
-/// Where two long replies differ first, since that is hard to see in hex.
+/// Record `number` of a stream, from 0, in words, or where the stream is bad
+/// before it.
+fn words_of_record(format: Format, stream: &[u8], number: usize) -> Next<String> {
+    let records = format.records(stream);
+    let bad = records.last().filter(|(_, record)| record.is_none());
+    match records.get(number).or(bad) {
+        Some((offset, Some(record))) => Next::Record(*offset, line_words(format, record)),
+        Some((offset, None)) => Next::Bad(*offset),
+        None => Next::End,
+    }
+}
+
+/// Where two long replies differ first, since that is hard to see in hex, or
+/// that the column after them does.
 fn reply_byte(expected: &str, came: &str) -> String {
-    let reply = |line: &str| line.split(' ').nth(3).map(str::to_string);
+    let reply = |line: &str| {
+        let columns = line.strip_prefix("CM ")?;
+        columns.split(' ').nth(2).map(str::to_string)
+    };
     let (Some(expected), Some(came)) = (reply(expected), reply(came)) else {
         return String::new();
     };
+    if expected == came && expected.len() > 1 {
+        return "\n  the replies are alike, the last column differs".to_string();
+    }
     let same = expected
         .bytes()
         .zip(came.bytes())

@@ -1,17 +1,18 @@
 //! The help pages.
 
 pub const GENERAL: &str = "\
-The independent second program, written from document 01 alone.
+The independent second program, written from documents 01 and 10 alone.
 
   reference bench       the bench protocol: records in, a line for each out
+  reference probe       the probe protocol: every call, any buffer
   reference generate    an adversarial stream by seed
   reference profiles    the kinds of generated streams
   reference compare     generated streams through another program and the model
   reference faults      the planted faults of the model
-  reference encode      case text to bench records
-  reference decode      bench records to case text
-  reference explain     a bench output in words
-  reference check       the stated answers of a case against a bench output
+  reference encode      case text to records of bench or probe
+  reference decode      records to case text
+  reference explain     an output in words
+  reference check       the stated answers of a case against an output
 
 Each subcommand has --help. The case text is described in CASES.md.
 ";
@@ -29,34 +30,58 @@ Reads bench records from standard input and prints a line for each, as document
 ",
     ),
     (
+        "probe",
+        "\
+reference probe [--fault NAME] < STREAM
+
+Reads probe records from standard input and prints a line for each, as document
+10 says for the records of the base. Exit status 0, after BAD too.
+
+  --fault NAME  with a planted fault of `reference faults --format probe`
+",
+    ),
+    (
         "generate",
         "\
-reference generate --seed N [--profile P] [--stream K] [--records N] > STREAM
+reference generate --seed N [--format F] [--profile P] [--stream K]
+                   [--records N] > STREAM
 
 Writes the stream of a seed. The seed chooses the profile unless one is named.
 
-  --profile P   a profile of `reference profiles`
+  --format F    bench (so if not given) or probe
+  --profile P   a profile of `reference profiles` for the format
   --stream K    stream number K, from 0, of a profile with several streams a seed
   --records N   N records where the profile is a loop, at most N elsewhere; a bad
-                rest of the stream is not counted
+                rest of the stream is not counted, nor is what a probe stream has
+                between: ES, DT and commands refused for their room
 ",
     ),
-    ("profiles", "reference profiles\n\nLists the profiles.\n"),
+    (
+        "profiles",
+        "\
+reference profiles [--format F]
+
+Lists the profiles of a format: bench (so if not given) or probe.
+",
+    ),
     (
         "encode",
         "\
 reference encode [CASEFILE] > STREAM
 
-Turns case text (a file or standard input) into bench records. An error gives
-exit status 1 and FILE:LINE: what was expected.
+Turns case text (a file or standard input) into the records of the program that
+its first line names, bench if it names none. An error gives exit status 1 and
+FILE:LINE: what was expected.
 ",
     ),
     (
         "decode",
         "\
-reference decode < STREAM
+reference decode [--format F] < STREAM
 
 Prints the case text of a stream; a bad rest is one `bytes` line.
+
+  --format F  bench (so if not given) or probe
 ",
     ),
     (
@@ -64,8 +89,9 @@ Prints the case text of a stream; a bad rest is one `bytes` line.
         "\
 reference explain CASEFILE [--program PATH] [--timeout SECONDS] [< OUTPUT]
 
-Prints in words what a bench answered to each record of the case: its output on
-standard input, or that of PATH run on the encoded case.
+Prints in words what a program answered to each record of the case: its output
+on standard input, or that of PATH run on the encoded case. PATH is a bench or a
+probe, as the first line of the case says.
 
   --program PATH     a path, or a path and arguments with blanks between them
   --timeout SECONDS  for PATH (60)
@@ -76,9 +102,10 @@ standard input, or that of PATH run on the encoded case.
         "\
 reference check CASEFILE [--program PATH] [--timeout SECONDS] [< OUTPUT]
 
-Says pass or fail for each answer that the case states after `=>`; the bench
-output is read from standard input, or from PATH run on the encoded case.
-The last line is `N passed, M failed`; exit status 1 if M is not 0.
+Says pass or fail for each answer that the case states after `=>`; the output is
+read from standard input, or from PATH run on the encoded case. PATH is a bench or
+a probe, as the first line of the case says. The last line is `N passed, M failed`;
+exit status 1 if M is not 0.
 
   --program PATH     a path, or a path and arguments with blanks between them
   --timeout SECONDS  for PATH (60)
@@ -87,9 +114,9 @@ The last line is `N passed, M failed`; exit status 1 if M is not 0.
     (
         "compare",
         "\
-reference compare --program PATH [--seeds A..B] [--profile P] [--all]
-                  [--timeout SECONDS]
-reference compare --fault NAME|all [--seeds A..B] [--profile P]
+reference compare --program PATH [--format F] [--seeds A..B] [--profile P]
+                  [--all] [--timeout SECONDS]
+reference compare --fault NAME|all [--format F] [--seeds A..B] [--profile P]
 
 Runs the streams of the seeds through PATH and through the model and compares
 the lines. The last line is `N passed, M failed`, counting streams; exit status 1
@@ -99,16 +126,22 @@ With --fault the model with that planted fault takes PATH's place; N counts the
 faults that the seeds find and M those that they do not.
 
   --program PATH     a path, or a path and arguments with blanks between them
+  --format F         bench (so if not given) or probe
   --seeds A..B       the seeds from A to B - 1 (0..200), or one seed: --seeds A
   --profile P        this profile for all seeds, not the one that a seed chooses
   --all              prints the first difference of every stream, not of one
   --timeout SECONDS  for each stream (60)
-  --fault NAME       a planted fault of `reference faults`, or all of them
+  --fault NAME       a planted fault of `reference faults` for the format, or all
 ",
     ),
     (
         "faults",
-        "reference faults\n\nLists the planted faults for --fault.\n",
+        "\
+reference faults [--format F]
+
+Lists the planted faults for --fault that a format can see: bench (so if not
+given) or probe, which sees those of bench too.
+",
     ),
 ];
 

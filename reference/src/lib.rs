@@ -1,11 +1,16 @@
-//! The independent second program of the project, written from document 01
-//! alone: a model of the device, the bench protocol over it, a generator of
-//! adversarial streams, a comparison with another program, and a case tool.
+//! The independent second program of the project, written from documents 01 and
+//! 10 alone: a model of the device, the bench and probe protocols over it, a
+//! generator of adversarial streams, a comparison with another program, and a
+//! case tool.
 
 pub mod bench;
 pub mod case;
 pub mod compare;
 pub mod device;
+pub mod format;
 pub mod generate;
+pub mod line;
+pub mod probe;
 pub mod random;
+pub mod source;
 pub mod stream;

@@ -4,13 +4,13 @@ mod arguments;
 mod help;
 
 use arguments::Arguments;
-use reference::case::{check, encode, explain, words};
+use reference::case::encode::{self, Case};
+use reference::case::{check, explain, words};
 use reference::compare::{self, Plan, Subject};
-use reference::device::fault::{FaultLine, FAULTS};
+use reference::device::fault::FaultLine;
 use reference::device::Config;
-use reference::generate::{profile_named, profile_of, DEFAULT_SEEDS, PROFILES};
-use reference::stream::{Next, Reader};
-use reference::{bench, device};
+use reference::format::Format;
+use reference::generate::{profile_named, profile_of, profiles, Profile, DEFAULT_SEEDS};
 use std::io::{self, BufReader, BufWriter, Read, Write};
 use std::process::ExitCode;
 use std::time::Duration;
@@ -35,7 +35,8 @@ fn main() -> ExitCode {
         return ExitCode::SUCCESS;
     }
     let outcome = match name.as_str() {
-        "bench" => run_bench(rest),
+        "bench" => run_format(Format::Bench, rest),
+        "probe" => run_format(Format::Probe, rest),
         "generate" => run_generate(rest),
         "profiles" => run_profiles(rest),
         "encode" => run_encode(rest),
@@ -59,16 +60,17 @@ fn print_bytes(bytes: &[u8]) -> Outcome {
     }
 }
 
-fn run_bench(words: Vec<String>) -> Outcome {
+fn run_format(format: Format, words: Vec<String>) -> Outcome {
     let mut arguments = Arguments::new(words);
     let mut config = Config::default();
     if let Some(name) = arguments.value("--fault")? {
-        config.fault = Some(fault_named(&name)?.fault);
+        config.fault = Some(fault_named(format, &name)?.fault);
     }
     arguments.end(0)?;
     let input = BufReader::with_capacity(1 << 16, io::stdin().lock());
     let mut output = BufWriter::with_capacity(1 << 16, io::stdout().lock());
-    let done = bench::run(input, &mut output, config).and_then(|()| output.flush());
+    let done = format.run(input, &mut output, config);
+    let done = done.and_then(|()| output.flush());
     match done {
         Err(error) if error.kind() != io::ErrorKind::BrokenPipe => Err(error.to_string()),
         _ => Ok(ExitCode::SUCCESS),
@@ -81,22 +83,27 @@ fn run_generate(words: Vec<String>) -> Outcome {
     let records = arguments.number("--records")?.map(|n| n as usize);
     let part = arguments.number("--stream")?.unwrap_or(0) as usize;
     let name = arguments.value("--profile")?;
+    let format = arguments.format()?;
     arguments.end(0)?;
     let profile = match &name {
-        Some(name) => profile_named(name).ok_or(format!(
-            "expected a profile of `reference profiles`, not `{name}`"
-        ))?,
-        None => profile_of(seed),
+        Some(name) => named_profile(format, name)?,
+        None => profile_of(format, seed),
     };
-    print_bytes(&profile.stream(seed, part, records))
+    print_bytes(&profile.stream_of(format, seed, part, records))
+}
+
+fn named_profile(format: Format, name: &str) -> Result<&'static Profile, String> {
+    profile_named(format, name).ok_or(format!(
+        "expected a profile of `reference profiles`, not `{name}`"
+    ))
 }
 
 fn run_profiles(words: Vec<String>) -> Outcome {
-    Arguments::new(words).end(0)?;
-    let line = |(name, what): (&str, &str)| format!("{name:<24}{what}\n");
-    let lines = PROFILES
-        .iter()
-        .map(|profile| line((profile.name, profile.what)));
+    let mut arguments = Arguments::new(words);
+    let format = arguments.format()?;
+    arguments.end(0)?;
+    let lines = profiles(format).into_iter();
+    let lines = lines.map(|profile| format!("{:<24}{}\n", profile.name, profile.what));
     print_bytes(lines.collect::<String>().as_bytes())
 }
 
@@ -121,61 +128,47 @@ fn run_encode(words: Vec<String>) -> Outcome {
     let arguments = Arguments::new(words);
     let names = arguments.end(1)?;
     let (name, text) = read_text(names.first())?;
-    let items = encode::items(&name, &text).map_err(|error| error.to_string())?;
-    print_bytes(&encode::stream_of(&items))
+    let case = encode::case(&name, &text).map_err(|error| error.to_string())?;
+    print_bytes(&case.stream())
 }
 
 fn run_decode(words: Vec<String>) -> Outcome {
-    Arguments::new(words).end(0)?;
+    let mut arguments = Arguments::new(words);
+    let format = arguments.format()?;
+    arguments.end(0)?;
     let mut stream = Vec::new();
     let read = io::stdin().lock().read_to_end(&mut stream);
     read.map_err(|error| error.to_string())?;
-    let mut reader = Reader::new(stream.as_slice());
-    let mut out = String::new();
-    loop {
-        match reader.next_record().map_err(|error| error.to_string())? {
-            Next::Record(_, record) => out.push_str(&words::record_words(&record)),
-            Next::Bad(offset) => {
-                out.push_str("bytes ");
-                bench::push_hex(&mut out, &stream[offset as usize..]);
-                out.push('\n');
-                break;
-            }
-            Next::End => break,
-        }
-        out.push('\n');
-    }
-    print_bytes(out.as_bytes())
+    print_bytes(words::stream_words(format, &stream).as_bytes())
 }
 
-/// The case's items and the bench output, from a program or standard input.
-fn case_and_output(words: Vec<String>) -> Result<(Vec<encode::Item>, String), String> {
+/// The case and the output for it, from a program or standard input.
+fn case_and_output(words: Vec<String>) -> Result<(Case, String), String> {
     let mut arguments = Arguments::new(words);
     let program = arguments.value("--program")?;
     let timeout = arguments.timeout()?;
     let names = arguments.end(1)?;
     let name = names.first().ok_or("expected a case file")?;
     let (name, text) = read_text(Some(name))?;
-    let items = encode::items(&name, &text).map_err(|error| error.to_string())?;
+    let case = encode::case(&name, &text).map_err(|error| error.to_string())?;
     let output = match program {
         Some(program) => {
-            let stream = encode::stream_of(&items);
-            let output = Subject::program(&program).output(stream, timeout)?;
+            let output = Subject::program(&program).output(case.stream(), timeout)?;
             String::from_utf8_lossy(&output).to_string()
         }
         None => read_text(None)?.1,
     };
-    Ok((items, output))
+    Ok((case, output))
 }
 
 fn run_explain(words: Vec<String>) -> Outcome {
-    let (items, output) = case_and_output(words)?;
-    print_bytes(explain::explain(&items, &output).as_bytes())
+    let (case, output) = case_and_output(words)?;
+    print_bytes(explain::explain(&case, &output).as_bytes())
 }
 
 fn run_check(words: Vec<String>) -> Outcome {
-    let (items, output) = case_and_output(words)?;
-    let report = check::check(&items, &output);
+    let (case, output) = case_and_output(words)?;
+    let report = check::check(&case, &output);
     for line in &report.lines {
         println!("{line}");
     }
@@ -195,7 +188,9 @@ fn run_compare(words: Vec<String>) -> Outcome {
     let mut arguments = Arguments::new(words);
     let program = arguments.value("--program")?;
     let fault = arguments.value("--fault")?;
+    let format = arguments.format()?;
     let plan = Plan {
+        format,
         seeds: arguments.seeds()?.unwrap_or(DEFAULT_SEEDS),
         profile: arguments.value("--profile")?,
         timeout: arguments.timeout()?,
@@ -203,9 +198,7 @@ fn run_compare(words: Vec<String>) -> Outcome {
     let all_differences = arguments.flag("--all");
     arguments.end(0)?;
     if let Some(name) = plan.profile.as_deref() {
-        profile_named(name).ok_or(format!(
-            "expected a profile of `reference profiles`, not `{name}`"
-        ))?;
+        named_profile(format, name)?;
     }
     let program = match (program, fault) {
         (Some(program), None) => program,
@@ -215,7 +208,7 @@ fn run_compare(words: Vec<String>) -> Outcome {
     let subject = Subject::program(&program);
     let mut shown = 0;
     // One difference is printed unless all are asked for; all are counted.
-    let (passed, failed) = compare::run(&plan, &subject, false, &mut |difference| {
+    let (passed, failed) = compare::run(&plan, &subject, &mut |difference| {
         shown += 1;
         if shown == 1 || all_differences {
             println!("{difference}");
@@ -224,8 +217,9 @@ fn run_compare(words: Vec<String>) -> Outcome {
     Ok(totals(passed, failed))
 }
 
-fn fault_named(name: &str) -> Result<&'static FaultLine, String> {
-    let found = FAULTS.iter().find(|line| line.name == name);
+fn fault_named(format: Format, name: &str) -> Result<&'static FaultLine, String> {
+    let mut faults = format.faults().into_iter();
+    let found = faults.find(|line| line.name == name);
     found.ok_or(format!(
         "expected a fault of `reference faults`, not `{name}`"
     ))
@@ -234,37 +228,41 @@ fn fault_named(name: &str) -> Result<&'static FaultLine, String> {
 /// For each fault: whether the seeds find it. A fault found is a pass.
 fn compare_faults(plan: &Plan, name: &str) -> Outcome {
     let chosen: Vec<&FaultLine> = match name {
-        "all" => FAULTS.iter().collect(),
-        name => vec![fault_named(name)?],
+        "all" => plan.format.faults(),
+        name => vec![fault_named(plan.format, name)?],
     };
-    let (mut found, mut missed) = (0, 0);
-    for line in chosen {
-        let faulty = Config {
-            fault: Some(line.fault),
-        };
-        let mut where_found = String::new();
-        let (_, failed) = compare::run(plan, &Subject::Model(faulty), true, &mut |difference| {
-            where_found = difference.lines().next().unwrap_or_default().to_string();
-        });
-        if failed > 0 {
-            found += 1;
-            println!("found {}: {where_found}", line.name);
-        } else {
-            missed += 1;
-            println!("not found {}", line.name);
+    let places = compare::find_faults(plan, &chosen);
+    for (line, place) in chosen.iter().zip(&places) {
+        match place {
+            Some(place) => println!("found {}: {place}", line.name),
+            None => println!("not found {}", line.name),
         }
     }
-    Ok(totals(found, missed))
+    let found = places.iter().flatten().count();
+    Ok(totals(found, places.len() - found))
 }
 
 fn run_faults(words: Vec<String>) -> Outcome {
-    Arguments::new(words).end(0)?;
-    let lines = device::fault::FAULTS.iter();
+    let mut arguments = Arguments::new(words);
+    let format = arguments.format()?;
+    arguments.end(0)?;
+    let lines = format.faults().into_iter();
     let lines = lines.map(|line| format!("{:<34}{}\n", line.name, line.what));
     print_bytes(lines.collect::<String>().as_bytes())
 }
 
 impl Arguments {
+    /// Takes `--format bench` or `--format probe`; bench if none is given.
+    fn format(&mut self) -> Result<Format, String> {
+        match self.value("--format")? {
+            Some(name) => {
+                let format = Format::named(&name);
+                format.ok_or(format!("expected --format bench or probe, not `{name}`"))
+            }
+            None => Ok(Format::Bench),
+        }
+    }
+
     fn timeout(&mut self) -> Result<Duration, String> {
         let seconds = self.number("--timeout")?.unwrap_or(60);
         Ok(Duration::from_secs(seconds))

@@ -2,20 +2,26 @@
 
 use reference::bench::lines_of;
 use reference::case::check::check;
-use reference::case::encode::{items, line_bytes, stream_of};
+use reference::case::encode::{case, line_bytes, Case};
 use reference::case::explain::explain;
-use reference::case::words::record_words;
+use reference::case::words::{line_words, stream_words};
 use reference::device::Config;
-use reference::generate::PROFILES;
-use reference::stream::{Next, Reader};
+use reference::format::Format;
+use reference::generate::profiles;
+use reference::probe::record::Record;
+use std::io::Write;
+use std::process::{Command, Stdio};
 
 fn error(text: &str) -> String {
-    items("case.txt", text).unwrap_err().to_string()
+    case("case.txt", text).unwrap_err().to_string()
+}
+
+fn read(text: &str) -> Case {
+    case("case.txt", text).unwrap()
 }
 
 fn output(text: &str) -> String {
-    let stream = stream_of(&items("case.txt", text).unwrap());
-    String::from_utf8(lines_of(&stream, Config::default())).unwrap()
+    String::from_utf8(lines_of(&read(text).stream(), Config::default())).unwrap()
 }
 
 #[test]
@@ -48,9 +54,35 @@ fn errors_name_file_line_and_what_was_expected() {
         ("line address={1", "case.txt:1: expected `}` after this `{`"),
         ("line address={1-2}", "case.txt:1: expected a result of 0 or more in {1-2}"),
         ("line address=0 =>", "case.txt:1: expected an answer after `=>`"),
+        ("event log=0 fill=0000", "case.txt:1: expected fill= as one byte of two hex digits, not `0000`"),
+        ("event log=0 fill=00 length=128", "case.txt:1: expected no `length=` here"),
+        ("command identify room=2048", "case.txt:1: expected no `room=` here"),
+        ("command identify fill=00", "case.txt:1: expected no `fill=` here"),
+        ("status", "case.txt:1: expected new, command, event, media, line, bytes, repeat or end, not `status`"),
+        ("program", "case.txt:1: expected `program bench` or `program probe`"),
+        ("program other", "case.txt:1: expected `program bench` or `program probe`"),
+        ("program probe => bad", "case.txt:1: expected `program bench` or `program probe`"),
+        ("new 1 0\nprogram probe", "case.txt:2: expected `program` on the first line only"),
+        ("program probe\nprogram probe", "case.txt:2: expected `program` on the first line only"),
     ];
     for (text, expected) in cases {
         assert_eq!(error(text), expected);
+    }
+    for (text, expected) in [
+        ("news 1 0", "expected new, command, event, media, line, status, total, bytes, repeat or end, not `news`"),
+        ("command identify room=4097", "expected room= from 0 to 4096, not `4097`"),
+        ("command identify fill=1", "expected fill= as one byte of two hex digits, not `1`"),
+        ("command identify raw=00*4097", "expected a payload of at most 4096 bytes (see `bytes`)"),
+        ("command identify length=0", "expected no `length=` here"),
+        ("event log=0", "expected bytes=HEX of at most 4096 bytes or fill=HH"),
+        ("event log=0 bytes=00*4097", "expected an event record of at most 4096 bytes, not 4097"),
+        ("event log=0 bytes=00 length=1", "expected no `length=` here"),
+        ("event log=0 fill=00 length=4097", "expected length= from 0 to 4096, not `4097`"),
+        ("status log=0", "expected no `log=` here"),
+        ("total 1", "expected no `1` here"),
+    ] {
+        let text = format!("program probe\nnew 1 0\n{text}");
+        assert_eq!(error(&text), format!("case.txt:3: {expected}"));
     }
     assert!(error("command turn-off").starts_with("case.txt:1: expected opcode= or one of get-"));
 }
@@ -58,7 +90,7 @@ fn errors_name_file_line_and_what_was_expected() {
 #[test]
 fn repeat_blocks_and_counters() {
     let text = "new 1 0\nrepeat 2 k\nrepeat 3\nline address={k*1000+i*64-0x0}\nend\nend\n";
-    let items = items("case.txt", text).unwrap();
+    let items = read(text).items;
     let words: Vec<&str> = items.iter().map(|item| item.line.words.as_str()).collect();
     assert_eq!(
         words[1..4],
@@ -75,15 +107,186 @@ fn repeat_blocks_and_counters() {
 }
 
 #[test]
-fn every_record_has_words_that_encode_to_it() {
-    for profile in PROFILES.iter().filter(|profile| !profile.large) {
-        let stream = profile.stream(3, 1, None);
-        let mut reader = Reader::new(stream.as_slice());
-        while let Next::Record(_, record) = reader.next_record().unwrap() {
-            let words = record_words(&record);
-            assert_eq!(line_bytes(&words).as_deref(), Ok(record.bytes().as_slice()));
+fn stated_answers_are_those_of_the_record() {
+    assert_eq!(
+        error("program probe\nnew 1 0\nstatus => sucess"),
+        "case.txt:3: expected after `=>` one of nothing, bad, unreadable, bits=, waiting=, \
+         highest=, offset=, logs=, highest-log=, not `sucess`"
+    );
+    for text in [
+        "new 1 0 => made",
+        "new 1 0 => kept=1",
+        "media address=0 lines=1 type=0 => lines=1",
+        "line address=0 => stored",
+        "event log=0 fill=00 => clean",
+        "command identify => timestamp=0",
+        "command identify => kept=1",
+    ] {
+        let message = error(text);
+        assert!(
+            message.starts_with("case.txt:1: expected after `=>` one of "),
+            "{message}"
+        );
+    }
+    for (text, expected) in [
+        ("line address=0 => type=x", "type= with numbers, not `x`"),
+        ("total => lines=1,", "lines= with numbers, not `1,`"),
+        (
+            "status => logs=info,none,high",
+            "logs= with names of logs or none, not `info,none,high`",
+        ),
+        (
+            "command identify => reply=0",
+            "reply= with bytes in hex, not `0`",
+        ),
+        (
+            "bytes \"XX\" => offset=here",
+            "offset= with numbers, not `here`",
+        ),
+    ] {
+        let message = error(&format!("program probe\nnew 1 0\n{text}"));
+        assert_eq!(
+            message,
+            format!("case.txt:3: expected after `=>` {expected}")
+        );
+    }
+    // A list may be empty, and a `bytes` line may hold any record.
+    read("command get-event-records log=0 => handles= times=");
+    read("bytes \"NW\" 0100 0000 => success");
+}
+
+#[test]
+fn a_generated_stream_has_words_that_encode_to_it() {
+    for format in [Format::Bench, Format::Probe] {
+        for profile in profiles(format).iter().filter(|profile| !profile.large) {
+            let stream = profile.stream_of(format, 3, 1, None);
+            let case = read(&stream_words(format, &stream));
+            assert_eq!(case.format, format);
+            assert_eq!(case.stream(), stream, "{}", profile.name);
         }
     }
+}
+
+/// A command record of probe.
+fn command(opcode: u16, room: u16, fill: u8, payload: &[u8]) -> Record {
+    Record::Command {
+        time: 7,
+        opcode,
+        room,
+        fill,
+        payload: payload.to_vec(),
+    }
+}
+
+fn event(record: &[u8]) -> Record {
+    Record::Event {
+        time: u64::MAX,
+        log: 255,
+        record: record.to_vec(),
+    }
+}
+
+#[test]
+fn every_probe_record_has_words_that_encode_to_it() {
+    let counting: Vec<u8> = (0..=255).cycle().take(4096).collect();
+    let effects = [&reference::device::EFFECTS_IDENTIFIER[..], &[0; 8]].concat();
+    let records = [
+        (
+            Record::New {
+                volatile: 1,
+                persistent: 65535,
+            },
+            "new 1 65535",
+        ),
+        (
+            command(0x4000, 2048, 0, &[]),
+            "command time=7 room=2048 fill=00 identify",
+        ),
+        (
+            command(0x4000, 0, 0xaa, &[]),
+            "command time=7 room=0 fill=aa identify",
+        ),
+        (
+            command(0x4000, 4096, 0, &[0; 4096]),
+            "command time=7 room=4096 fill=00 identify raw=00*4096",
+        ),
+        (
+            command(0x4000, 2048, 1, &counting),
+            "command time=7 room=2048 fill=01 identify raw=000102",
+        ),
+        (
+            command(0x0401, 1, 0, &effects),
+            "command time=7 room=1 fill=00 get-log id=effects offset=0 length=0",
+        ),
+        (
+            command(0x0401, 2048, 0, &[1]),
+            "command time=7 room=2048 fill=00 get-log raw=01",
+        ),
+        (
+            command(0x4301, 2048, 0, &[64, 0, 0, 0, 0, 0, 0, 0]),
+            "command time=7 room=2048 fill=00 inject-poison address=64",
+        ),
+        (
+            command(0xffff, 2047, 0xff, &[]),
+            "command time=7 room=2047 fill=ff opcode=0xffff payload=",
+        ),
+        (
+            command(0x0099, 2048, 0, &[1, 2]),
+            "command time=7 room=2048 fill=00 opcode=0x0099 payload=0102",
+        ),
+        (event(&[]), "event time=18446744073709551615 log=255 bytes="),
+        (
+            event(&[1]),
+            "event time=18446744073709551615 log=255 fill=01 length=1",
+        ),
+        (
+            event(&[2; 127]),
+            "event time=18446744073709551615 log=255 fill=02 length=127",
+        ),
+        (
+            event(&[3; 128]),
+            "event time=18446744073709551615 log=255 fill=03",
+        ),
+        (
+            event(&[4; 4096]),
+            "event time=18446744073709551615 log=255 fill=04 length=4096",
+        ),
+        (
+            event(&counting),
+            "event time=18446744073709551615 log=255 bytes=000102",
+        ),
+        (
+            Record::Media {
+                time: 1,
+                address: 2,
+                lines: 3,
+                kind: 4,
+            },
+            "media time=1 address=2 lines=3 type=4",
+        ),
+        (
+            Record::Line { address: u64::MAX },
+            "line address=18446744073709551615",
+        ),
+        (Record::Status, "status"),
+        (Record::Total, "total"),
+    ];
+    let mut stream = Vec::new();
+    for (record, expected) in &records {
+        let words = line_words(Format::Probe, record);
+        assert!(words.starts_with(expected), "{expected}, not {words}");
+        let bytes = line_bytes(Format::Probe, &words).unwrap();
+        assert_eq!(bytes, record.bytes(), "{words}");
+        stream.extend(bytes);
+    }
+    stream.extend(b"PC\x00");
+    let text = stream_words(Format::Probe, &stream);
+    assert!(text.starts_with("program probe\nnew 1 65535\n"));
+    assert!(text.ends_with("\nstatus\ntotal\nbytes 504300\n"));
+    let again = read(&text);
+    assert_eq!(again.format, Format::Probe);
+    assert_eq!(again.stream(), stream);
+    assert_eq!(again.items.len(), records.len() + 1);
 }
 
 #[test]
@@ -98,27 +301,26 @@ fn expectations_pass_and_fail() {
         event log=0 fill=00 => stored\n\
         bytes \"XX\" => bad offset=254\n\
         line address=0 => nothing\n";
-    let items = items("case.txt", text).unwrap();
-    let output = output(text);
-    let report = check(&items, &output);
+    let report = check(&read(text), &output(text));
     assert_eq!((report.passed, report.failed), (7, 3), "{:?}", report.lines);
     let failed = |line: &&String| line.starts_with("fail");
     let failed: Vec<&String> = report.lines.iter().filter(failed).collect();
     assert_eq!(
         failed[0],
-        "fail 4: line address=0: expected clean; came damaged code=0 type=1"
+        "fail 4: line address=0: expected clean; came success damaged code=0 answer=1 type=1"
     );
     assert!(failed[1].contains("expected success length=8 timestamp=1; came success"));
     assert!(failed[2].contains("expected bad offset=254; came bad offset="));
     // A line too many is a failure, a line too few is `nothing`.
-    let report = check(&items[..1], "NW 0\nLT 0 0 0\n");
+    let first = read("new 1 0 => success");
+    let report = check(&first, "NW 0\nLT 0 0 0\n");
     assert_eq!((report.passed, report.failed), (1, 1));
-    let report = check(&items[..1], "");
+    let report = check(&first, "");
     assert_eq!(
         report.lines,
         ["fail 1: new 1 0: expected success; came nothing"]
     );
-    let report = check(&items[..1], "NW zero\n");
+    let report = check(&first, "NW zero\n");
     assert_eq!(report.failed, 1);
 }
 
@@ -137,12 +339,11 @@ fn explanations_decode_replies() {
         command get-poison-list address=0 lines=4\n\
         command inject-poison address=1\n\
         bytes \"XX\"\n";
-    let items = items("case.txt", text).unwrap();
-    let words = explain(&items, &output(text));
+    let words = explain(&read(text), &output(text));
     for expected in [
         "line 1: new 1 0\n    success: the device is made",
         "success: the event record is stored",
-        "log 1 (Warning): flags 2 (overflow 0, more 1), 1 records",
+        "log 1 (Warning): flags 2 (overflow 0, more 1), 1 record\n",
         "record: handle 1, timestamp 6,",
         "log 0 (Info): 21h, vector 2, mode 1",
         "poison-entries 256",
@@ -150,9 +351,171 @@ fn explanations_decode_replies() {
         "success: 3 lines stored, 0 lines dropped",
         "damaged, type 2 (internal)",
         "record: address 128 (0x80), type 2 (internal), 2 lines",
-        "refused: invalid-input (0002h), no reply",
+        "refused: invalid input (0002h): length 0",
         "the stream is bad at offset",
     ] {
         assert!(words.contains(expected), "{expected} not in\n{words}");
     }
+}
+
+/// Words of the probe case's lines, each with the line that is explained and
+/// its explanation.
+fn explained(lines: &[(&str, &str)]) -> Vec<String> {
+    let words: Vec<&str> = lines.iter().map(|(words, _)| *words).collect();
+    let output: Vec<&str> = lines.iter().map(|(_, line)| *line).collect();
+    let case = read(&format!("program probe\nnew 1 0\n{}\n", words.join("\n")));
+    let text = explain(&case, &format!("NW 0\n{}\n", output.join("\n")));
+    let said: Vec<&str> = text.lines().filter(|line| line.starts_with(' ')).collect();
+    said.iter()
+        .skip(1)
+        .map(|line| line.trim().to_string())
+        .collect()
+}
+
+#[test]
+fn explanations_of_probe_lines() {
+    let identify = "CM 0 2 4257 1";
+    let cases = [
+        ("command fill=aa identify", identify, "success: identify, reply of 2 bytes, the other 2,046 bytes of the buffer still 0xaa"),
+        ("command fill=aa identify", "CM 0 2 4257 0", "success: identify, reply of 2 bytes, NOT KEPT: the other 2,046 bytes of the buffer are no longer all 0xaa"),
+        ("command room=2 identify", identify, "success: identify, reply of 2 bytes, which is the whole buffer"),
+        ("command room=1 identify", identify, "success: identify, reply of 2 bytes, LONGER THAN THE BUFFER of 1 byte"),
+        ("command room=2047 fill=aa identify", "CM 256 0 - 1", "refused: reply buffer too small (0100h): length 0, all 2,047 bytes of the buffer still 0xaa"),
+        ("command room=2047 fill=0a identify", "CM 256 0 - 0", "refused: reply buffer too small (0100h): length 0, NOT KEPT: the 2,047 bytes of the buffer are no longer all 0x0a"),
+        ("command room=1 fill=55 identify", "CM 256 0 - 1", "refused: reply buffer too small (0100h): length 0, the 1 byte of the buffer still 0x55"),
+        ("command room=0 identify", "CM 256 0 - 1", "refused: reply buffer too small (0100h): length 0, the buffer is empty"),
+        ("command set-timestamp value=1", "CM 0 0 - 1", "success: set-timestamp, no reply, all 2,048 bytes of the buffer still 0x00"),
+        ("command opcode=1", "CM 3 0 - 1", "refused: unsupported (0003h): length 0, all 2,048 bytes of the buffer still 0x00"),
+        ("new 0 0", "NW 2", "refused: invalid input (0002h); the device beside it has one volatile unit"),
+        ("new 1 0", "NW 0", "success: the device is made"),
+        ("event log=0 fill=00", "EV 0 1", "success: the event record is stored"),
+        ("event log=0 fill=00", "EV 0 0", "success: not stored, the log is full and counts an overflow"),
+        ("event log=5 fill=00", "EV 2 0", "refused: invalid input (0002h), not stored"),
+        ("event log=0 bytes=", "EV 22 0", "refused: invalid payload length (0016h), not stored"),
+        ("event log=0 bytes=", "EV 22 1", "refused: invalid payload length (0016h), BUT STORED"),
+        ("media address=0 lines=2 type=0", "MD 0 1 1", "success: 1 line stored, 1 line dropped"),
+        ("media address=0 lines=0 type=0", "MD 2 0 0", "refused: invalid input (0002h), 0 lines stored, 0 lines dropped"),
+        ("media address=0 lines=0 type=0", "MD 2 0 4", "refused: invalid input (0002h), BUT 0 lines stored, 4 lines dropped"),
+        ("line address=0", "LT 0 0 0", "clean"),
+        ("line address=0", "LT 0 1 3", "damaged, type 3 (injected)"),
+        ("line address=0", "LT 0 2 0", "unknown"),
+        ("line address=1", "LT 2 2 0", "refused: invalid input (0002h), unknown, type 0"),
+        ("line address=1", "LT 2 0 0", "refused: invalid input (0002h), BUT clean, type 0 (unknown source)"),
+        ("status", "ES 0 0 5", "no log waits; 0 logs waiting, the highest is 5 (none)"),
+        ("status", "ES 2 1 1", "waiting: log 1 (Warning); 1 log waiting, the highest is 1 (Warning)"),
+        ("status", "ES 17 2 4", "waiting: log 0 (Info), log 4 (Dynamic Capacity); 2 logs waiting, the highest is 4 (Dynamic Capacity)"),
+        ("total", "DT 0", "damage total: 0 lines"),
+        ("total", "DT 4290772992", "damage total: 4,290,772,992 lines"),
+        ("total", "DT -", "not a line of this record: DT -"),
+        ("status", "ES 0 0", "not a line of this record: ES 0 0"),
+        ("command get-timestamp", "CM 0 0", "not a line of this record: CM 0 0"),
+        ("line address=0", "LT 2", "not a line of this record: LT 2"),
+        ("bytes \"XX\"", "BAD 6", "the stream is bad at offset 6"),
+    ];
+    for (words, line, expected) in cases {
+        assert_eq!(explained(&[(words, line)])[0], expected, "{words}: {line}");
+    }
+    let lines = [
+        ("command fill=01 get-timestamp", "CM 0 8 0500000000000000 1"),
+        ("command inject-poison address=1", "CM 2 1 ff 1"),
+    ];
+    assert_eq!(
+        explained(&lines),
+        [
+            "success: get-timestamp, reply of 8 bytes, the other 2,040 bytes of the buffer still 0x01",
+            "timestamp 5",
+            "refused: invalid input (0002h): length 1, the other 2,047 bytes of the buffer still 0x00",
+            "BYTES OF A REFUSED COMMAND: ff",
+        ]
+    );
+}
+
+#[test]
+fn expectations_of_probe_lines() {
+    let lines = [
+        ("new 1 0 => success code=0", "NW 0"),
+        ("command room=1 get-timestamp => reply-buffer-too-small code=0x100 length=0 reply=- kept=1", "CM 256 0 - 1"),
+        ("command get-timestamp => success length=8 reply=00*8 timestamp=0 kept=0", "CM 0 8 0000000000000000 0"),
+        ("command inject-poison address=0 => success reply= kept=1", "CM 0 0 - 1"),
+        ("event log=5 fill=00 => invalid-input not-stored stored=0", "EV 2 0"),
+        ("event log=0 fill=00 => success stored", "EV 0 1"),
+        ("media address=1 lines=1 type=0 => invalid-input stored=0 dropped=0", "MD 2 0 0"),
+        ("line address=1 => invalid-input unknown answer=2 type=0", "LT 2 2 0"),
+        ("status => bits=0x11 waiting=2 highest=4 logs=info,dynamic-capacity highest-log=dynamic-capacity", "ES 17 2 4"),
+        ("status => bits=0 waiting=0 highest=5 logs=none highest-log=none", "ES 0 0 5"),
+        ("total => lines=12", "DT 12"),
+        ("total => lines=13", "DT 12"),
+        ("event log=5 fill=00 => invalid-input not-stored", "EV 2 1"),
+        ("command get-timestamp => kept=1", "CM 0 8 0000000000000000 0"),
+        ("bytes \"PC\" => bad", "BAD 1"),
+    ];
+    let words: Vec<&str> = lines.iter().map(|(words, _)| *words).collect();
+    let output: Vec<&str> = lines.iter().map(|(_, line)| *line).collect();
+    let case = read(&format!("program probe\n{}", words.join("\n")));
+    let report = check(&case, &(output.join("\n") + "\n"));
+    let failed: Vec<&String> = report
+        .lines
+        .iter()
+        .filter(|line| line.starts_with("fail"))
+        .collect();
+    assert_eq!((report.passed, report.failed), (12, 3), "{failed:?}");
+    assert_eq!(
+        failed[0],
+        "fail 13: total: expected lines=13; came lines=12"
+    );
+}
+
+/// Runs the tool with these arguments and this standard input: its exit status
+/// and what it prints on its two outputs.
+fn tool(arguments: &[&str], input: &[u8]) -> (Option<i32>, Vec<u8>, String) {
+    let mut child = Command::new(env!("CARGO_BIN_EXE_reference"))
+        .args(arguments)
+        .stdin(Stdio::piped())
+        .stdout(Stdio::piped())
+        .stderr(Stdio::piped())
+        .spawn()
+        .unwrap();
+    // A tool that ends before it reads is no error.
+    let _ = child.stdin.take().unwrap().write_all(input);
+    let output = child.wait_with_output().unwrap();
+    let errors = String::from_utf8(output.stderr).unwrap();
+    (output.status.code(), output.stdout, errors)
+}
+
+#[test]
+fn an_error_is_printed_once_by_each_subcommand() {
+    let path = std::env::temp_dir().join(format!("case-{}.txt", std::process::id()));
+    let name = path.to_str().unwrap();
+    let wrong = [
+        ("repeat 3\ncommand identify room=x\nend\n", "expected room= from 0 to 4096, not `x`"),
+        ("\nlines 3\n", "expected new, command, event, media, line, status, total, bytes, repeat or end, not `lines`"),
+    ];
+    for (text, message) in wrong {
+        std::fs::write(&path, format!("program probe\n{text}")).unwrap();
+        for subcommand in ["encode", "explain", "check"] {
+            let (status, out, errors) = tool(&[subcommand, name], b"");
+            assert_eq!(status, Some(1));
+            assert_eq!(out, b"", "{subcommand}");
+            assert_eq!(errors, format!("{name}:3: {message}\n"), "{subcommand}");
+        }
+    }
+    std::fs::remove_file(&path).unwrap();
+}
+
+#[test]
+fn decode_is_told_the_format() {
+    let text = "program probe\nnew 1 0\nstatus\ncommand time=0 room=0 fill=aa identify\n";
+    let stream = read(text).stream();
+    let (status, out, _) = tool(&["decode", "--format", "probe"], &stream);
+    assert_eq!(
+        (status, String::from_utf8(out).unwrap()),
+        (Some(0), text.to_string())
+    );
+    let (_, out, _) = tool(&["decode"], &read("new 1 0\nline address=0").stream());
+    assert_eq!(out, b"new 1 0\nline address=0\n");
+    let (_, out, _) = tool(&["decode", "--format", "bench"], b"NW\x01\0\0\0ES");
+    assert_eq!(out, b"new 1 0\nbytes 4553\n");
+    let (status, _, errors) = tool(&["decode", "--format", "other"], b"");
+    assert_eq!(status, Some(1));
+    assert_eq!(errors, "expected --format bench or probe, not `other`\n");
 }

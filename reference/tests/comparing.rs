@@ -1,17 +1,18 @@
 //! The comparison: planted faults are found, a difference is reported, large
 //! streams pass through a child process, and a seed gives one stream.
 
-use reference::compare::{run, Plan, Subject};
-use reference::device::fault::FAULTS;
-use reference::device::{Config, Fault};
-use reference::generate::{profile_named, profile_of, DEFAULT_SEEDS, PROFILES};
+use reference::compare::{find_faults, run, Plan, Subject};
+use reference::device::Config;
+use reference::format::Format::{self, Bench, Probe};
+use reference::generate::{profile_named, profile_of, profiles, DEFAULT_SEEDS};
 use std::process::Command;
 use std::time::Duration;
 
 const PROGRAM: &str = env!("CARGO_BIN_EXE_reference");
 
-fn plan(seeds: std::ops::Range<u64>, profile: Option<&str>) -> Plan {
+fn plan(format: Format, seeds: std::ops::Range<u64>, profile: Option<&str>) -> Plan {
     Plan {
+        format,
         seeds,
         profile: profile.map(str::to_string),
         timeout: Duration::from_secs(60),
@@ -20,96 +21,132 @@ fn plan(seeds: std::ops::Range<u64>, profile: Option<&str>) -> Plan {
 
 #[test]
 fn default_seeds_find_every_planted_fault() {
-    for line in FAULTS {
-        let faulty = Config {
-            fault: Some(line.fault),
-        };
-        let plan = plan(DEFAULT_SEEDS, None);
-        let (_, failed) = run(&plan, &Subject::Model(faulty), true, &mut |_| {});
-        assert_eq!(failed, 1, "{} is not found", line.name);
+    for format in [Bench, Probe] {
+        let faults = format.faults();
+        let plan = plan(format, DEFAULT_SEEDS, None);
+        for (line, found) in faults.iter().zip(find_faults(&plan, &faults)) {
+            assert!(found.is_some(), "{} is not found in {format:?}", line.name);
+        }
     }
 }
 
 #[test]
+fn probe_sees_every_fault_of_bench_and_more() {
+    let names = |format: Format| -> Vec<&str> {
+        let faults = format.faults().into_iter();
+        faults.map(|line| line.name).collect()
+    };
+    let (bench, probe) = (names(Bench), names(Probe));
+    assert!(bench.iter().all(|name| probe.contains(name)));
+    assert!(probe.len() > bench.len());
+    // The others are not seen by bench: its streams give the same lines.
+    let plan = plan(Bench, 0..20, None);
+    let more: Vec<_> = Probe.faults().split_off(bench.len());
+    assert!(find_faults(&plan, &more).iter().all(Option::is_none));
+}
+
+#[test]
 fn default_seeds_use_every_profile() {
-    let names: Vec<&str> = DEFAULT_SEEDS.map(|seed| profile_of(seed).name).collect();
-    for profile in PROFILES {
-        assert!(names.contains(&profile.name), "{}", profile.name);
+    for format in [Bench, Probe] {
+        let seeds = DEFAULT_SEEDS.map(|seed| profile_of(format, seed).name);
+        let names: Vec<&str> = seeds.collect();
+        for profile in profiles(format) {
+            assert!(names.contains(&profile.name), "{format:?} {}", profile.name);
+        }
     }
 }
 
 #[test]
 fn a_difference_is_reported() {
-    let faulty = Config {
-        fault: Some(Fault::SurplusHandlesPass),
-    };
+    let faulty = Subject::program(&format!("{PROGRAM} bench --fault surplus-handles-pass"));
     let mut said = Vec::new();
-    let plan = plan(0..1, Some("wrong-handles"));
-    let totals = run(&plan, &Subject::Model(faulty), false, &mut |text| {
-        said.push(text)
-    });
+    let one = plan(Bench, 0..1, Some("wrong-handles"));
+    let totals = run(&one, &faulty, &mut |text| said.push(text));
     assert_eq!(totals, (0, 1));
     assert!(said[0].starts_with("seed 0, profile wrong-handles, stream 0\n  record "));
     assert!(said[0].contains("clear-event-records log="));
     assert!(said[0].contains("\n  expected: CM 14 0\n  came:     CM 0 0"));
+    // A probe record is said with its room and fill.
+    let faulty = Subject::program(&format!("{PROGRAM} probe --fault room-2048-refused"));
+    let one = plan(Probe, 0..1, Some("get-log"));
+    let totals = run(&one, &faulty, &mut |text| said.push(text));
+    assert_eq!(totals, (0, 1));
+    assert!(said[1].contains(" room=2048 fill="));
+    assert!(said[1].contains("\n  came:     CM 256 0 - 1"));
+    // A long reply that is right beside a byte that was not kept.
+    let faulty = Subject::program(&format!("{PROGRAM} probe --fault byte-past-reply"));
+    let totals = run(&one, &faulty, &mut |text| said.push(text));
+    assert_eq!(totals, (0, 1));
+    assert!(said[2].ends_with("\n  the replies are alike, the last column differs"));
 }
 
 #[test]
 fn a_child_without_difference_and_with_one() {
-    let plan = plan(1..2, Some("overflow"));
-    let same = Subject::program(&format!("{PROGRAM} bench"));
-    assert_eq!(run(&plan, &same, false, &mut |_| {}), (1, 0));
-    let faulty = format!("{PROGRAM} bench --fault first-overflow-time-overwritten");
-    let faulty = Subject::program(&faulty);
-    assert_eq!(run(&plan, &faulty, false, &mut |_| {}), (0, 1));
-    // A program that is not there and one that answers nothing.
-    let missing = Subject::program("/no/such/program");
-    assert_eq!(run(&plan, &missing, false, &mut |_| {}), (0, 1));
-    let silent = Subject::program("true");
-    assert_eq!(run(&plan, &silent, false, &mut |_| {}), (0, 1));
+    for (format, name) in [(Bench, "bench"), (Probe, "probe")] {
+        let plan = plan(format, 1..2, Some("overflow"));
+        let totals = |program: &str| run(&plan, &Subject::program(program), &mut |_| {});
+        let same = format!("{PROGRAM} {name}");
+        assert_eq!(totals(&same), (1, 0));
+        let faulty = format!("{same} --fault first-overflow-time-overwritten");
+        assert_eq!(totals(&faulty), (0, 1));
+        // A program that is not there and one that answers nothing.
+        assert_eq!(totals("/no/such/program"), (0, 1));
+        assert_eq!(totals("true"), (0, 1));
+    }
 }
 
 #[test]
 fn a_child_that_does_not_end_is_a_failure() {
-    let mut plan = plan(1..2, Some("overflow"));
+    let mut plan = plan(Bench, 1..2, Some("overflow"));
     plan.timeout = Duration::from_millis(200);
     let endless = Subject::program("sleep 1000");
-    assert_eq!(run(&plan, &endless, false, &mut |_| {}), (0, 1));
+    assert_eq!(run(&plan, &endless, &mut |_| {}), (0, 1));
     // Nor one that closes its output and goes on, most of its input unread.
-    let words = ["sh", "-c", "exec >&-; exec sleep 1000"];
-    let closing = Subject::Program(words.map(str::to_string).to_vec());
+    let closing = Subject::words(&["sh", "-c", "exec >&-; exec sleep 1000"]);
     let mut said = String::new();
-    let totals = run(&plan, &closing, false, &mut |text| said = text);
+    let totals = run(&plan, &closing, &mut |text| said = text);
     assert_eq!(totals, (0, 1));
     assert!(said.ends_with("did not end in 200ms"), "{said}");
 }
 
 #[test]
 fn a_large_stream_passes_without_waiting() {
-    let plan = plan(5..6, Some("handles-come-round"));
+    let bench = plan(Bench, 5..6, Some("handles-come-round"));
     let same = Subject::program(&format!("{PROGRAM} bench"));
-    assert_eq!(run(&plan, &same, false, &mut |_| {}), (1, 0));
+    assert_eq!(run(&bench, &same, &mut |_| {}), (1, 0));
+    let probe = plan(Probe, 5..6, Some("long"));
+    let same = Subject::program(&format!("{PROGRAM} probe"));
+    assert_eq!(run(&probe, &same, &mut |_| {}), (1, 0));
 }
 
 #[test]
 fn streams_are_the_same_for_a_seed_and_differ_between_seeds() {
-    for profile in PROFILES.iter().filter(|profile| !profile.large) {
-        let make = |seed| profile.stream(seed, 0, None);
-        assert_eq!(make(7), make(7));
+    for format in [Bench, Probe] {
+        for profile in profiles(format).iter().filter(|profile| !profile.large) {
+            let make = |seed| profile.stream_of(format, seed, 0, None);
+            assert_eq!(make(7), make(7));
+        }
+        let mixed = profile_named(format, "mixed").unwrap();
+        let make = |seed| mixed.stream_of(format, seed, 0, Some(50));
+        assert_ne!(make(7), make(8));
     }
-    let mixed = profile_named("mixed").unwrap();
-    let make = |seed| mixed.stream(seed, 0, Some(50));
-    assert_ne!(make(7), make(8));
+}
+
+/// The lines of a profile's stream.
+fn text(format: Format, name: &str, part: usize) -> String {
+    let profile = profile_named(format, name).unwrap();
+    let stream = profile.stream_of(format, 1, part, None);
+    String::from_utf8(format.lines_of(&stream, Config::default())).unwrap()
 }
 
 #[test]
 fn profiles_reach_what_they_are_about() {
-    use reference::bench::lines_of;
-    let text = |name: &str, part: usize| {
-        let profile = profile_named(name).unwrap();
-        let stream = profile.stream(1, part, None);
-        String::from_utf8(lines_of(&stream, Config::default())).unwrap()
-    };
+    reach(Bench);
+    reach(Probe);
+}
+
+fn reach(format: Format) {
+    let text = |name: &str, part: usize| text(format, name, part);
     // Overflow count ffff after the flags 03 and the zero byte.
     assert!(text("overflow-count-limit", 0).contains(" 0300ffff"));
     // Handles of both sides of 65,535 in one reply.
@@ -117,8 +154,49 @@ fn profiles_reach_what_they_are_about() {
     let both = |line: &str| handles(line).windows(2).any(|pair| pair == [65_535, 1]);
     assert!(round.lines().any(both));
     assert!(text("poison-full-list", 0).contains("CM 16 0"));
-    for part in 0..profile_named("malformed").unwrap().streams() {
-        assert!(text("malformed", part).lines().count() < 20);
+    let malformed = profile_named(format, "malformed").unwrap();
+    for part in 0..malformed.streams() {
+        assert!(text("malformed", part).lines().count() < 40);
+    }
+}
+
+#[test]
+fn malformed_probe_streams_end_bad() {
+    let malformed = profile_named(Probe, "malformed").unwrap();
+    let bad = |part: &usize| {
+        let text = text(Probe, "malformed", *part);
+        text.lines().last().unwrap_or_default().starts_with("BAD ")
+    };
+    // All but the empty input and the cuts before a record's first byte: of NW,
+    // two CM, EV, MD, LT, ES, DT and a later NW.
+    let bad = (0..malformed.streams()).filter(bad).count();
+    assert_eq!(bad, malformed.streams() - 1 - 9);
+}
+
+#[test]
+fn probe_profiles_reach_what_they_are_about() {
+    let text = |name| text(Probe, name, 0);
+    // A reply that fills its room, one with a byte to spare, a refused room.
+    let rooms = text("rooms");
+    assert!(rooms.contains("CM 0 2048 "));
+    assert!(rooms.contains("CM 256 0 - 1\n"));
+    // Not stored for want of a place, for the size, for the log.
+    let sizes = text("event-sizes");
+    for line in ["EV 0 1\n", "EV 0 0\n", "EV 22 0\n", "EV 2 0\n"] {
+        assert!(sizes.contains(line));
+    }
+    // Last line and the one past it of the one volatile unit.
+    let makes = text("refused-makes");
+    for line in ["NW 2\n", "LT 0 1 3\n", "LT 15 2 0\n", "MD 15 0 0\n"] {
+        assert!(makes.contains(line));
+    }
+    let status = text("status");
+    for bits in 0..32 {
+        assert!(status.contains(&format!("\nES {bits} ")), "{bits}");
+    }
+    assert!(text("total").contains("DT "));
+    for profile in profiles(Probe).iter().filter(|profile| profile.large) {
+        assert!(profile.stream_of(Probe, 1, 0, None).len() > 3_000_000);
     }
 }
 
@@ -138,8 +216,8 @@ fn handles(line: &str) -> Vec<u16> {
 #[test]
 fn every_subcommand_has_help() {
     for name in [
-        "bench", "generate", "profiles", "encode", "decode", "explain", "check", "compare",
-        "faults",
+        "bench", "probe", "generate", "profiles", "encode", "decode", "explain", "check",
+        "compare", "faults",
     ] {
         let output = Command::new(PROGRAM).args([name, "--help"]).output();
         let output = output.unwrap();

@@ -1,22 +1,68 @@
-//! The answer that a bench line gives to a record, taken apart into a status
-//! word and named fields, by document 01's layouts of the replies.
+//! The answer that a line gives to a record, taken apart into words and named
+//! fields: the columns of document 10, then the parts of a reply.
 
-use super::words::identifier_words;
-use crate::bench::push_hex;
-use crate::device::numbers::{number, opcode, return_name};
-use crate::stream::Record;
+use super::fields::hex_groups;
+use super::layout::layout;
+use super::text::whole_number;
+use crate::device::numbers::{return_name, RETURN_NAMES};
+use crate::format::Format;
+use crate::probe::record::Record;
 
-/// A bench line taken apart.
-#[derive(Clone, Debug, PartialEq, Eq)]
+/// The logs' names, by number.
+pub const LOG_NAMES: [&str; 5] = ["Info", "Warning", "Failure", "Fatal", "Dynamic Capacity"];
+/// What the `stored` of an event report and the `answer` of a line test mean.
+const STORED: [&str; 2] = ["not-stored", "stored"];
+const ANSWERS: [&str; 3] = ["clean", "damaged", "unknown"];
+/// The words of a line that is no answer of the record.
+const NO_ANSWER: [&str; 3] = ["nothing", "bad", "unreadable"];
+
+/// A log's name as the case text writes it; `none` for 5 ("5 if none").
+fn log_word(log: u64) -> String {
+    let name = LOG_NAMES.get(log as usize).unwrap_or(&"none");
+    name.to_lowercase().replace(' ', "-")
+}
+
+/// The columns of a line after its mark, as document 10 has them; bench does not
+/// print `kept`. All are decimal numbers but `reply`.
+fn columns(format: Format, record: &Record) -> &'static [&'static str] {
+    match record {
+        Record::New { .. } => &["code"],
+        Record::Command { .. } if format == Format::Bench => &["code", "length", "reply"],
+        Record::Command { .. } => &["code", "length", "reply", "kept"],
+        Record::Event { .. } => &["code", "stored"],
+        Record::Media { .. } => &["code", "stored", "dropped"],
+        Record::Line { .. } => &["code", "answer", "type"],
+        Record::Status => &["bits", "waiting", "highest"],
+        Record::Total => &["lines"],
+    }
+}
+
+/// The columns that the program prints here. Bench prints no `reply` of length 0,
+/// and "a refused EV, MD or LT prints mark and code only".
+fn printed(format: Format, record: &Record, words: &[&str]) -> &'static [&'static str] {
+    let all = columns(format, record);
+    let zero = |at: usize| words.get(at) == Some(&"0");
+    match (format, record) {
+        (Format::Probe, _) => all,
+        (Format::Bench, Record::Command { .. }) if zero(1) => &all[..2],
+        (Format::Bench, Record::Command { .. }) => all,
+        (Format::Bench, _) if zero(0) => all,
+        (Format::Bench, _) => &all[..1],
+    }
+}
+
+/// A line taken apart.
+#[derive(Clone, Debug, Default, PartialEq, Eq)]
 pub struct Answer {
-    pub status: String,
+    /// The words that hold, such as `success` and `damaged`.
+    pub words: Vec<String>,
     pub fields: Vec<(String, String)>,
 }
 
 impl Answer {
-    fn new(status: &str) -> Answer {
+    fn new(word: &str) -> Answer {
         Answer {
-            status: status.to_string(),
+            words: vec![word.to_string()],
             fields: Vec::new(),
         }
     }
@@ -30,9 +76,8 @@ impl Answer {
         self.fields.push((name.to_string(), value.to_string()));
     }
 
-    fn add_list(&mut self, name: &str, values: impl Iterator<Item = u64>) {
-        let texts: Vec<String> = values.map(|value| value.to_string()).collect();
-        self.add(name, texts.join(","));
+    pub fn has(&self, word: &str) -> bool {
+        self.words.iter().any(|known| known == word)
     }
 
     /// The field of this name.
@@ -41,172 +86,203 @@ impl Answer {
         found.map(|(_, value)| value.as_str())
     }
 
-    /// Status and fields in one line; long values are cut.
-    pub fn words(&self) -> String {
-        let mut out = self.status.clone();
+    /// The field of this name as a number.
+    pub fn number(&self, name: &str) -> Option<u64> {
+        self.field(name)?.parse().ok()
+    }
+
+    /// Words and fields in one line; the bytes of a reply are left out.
+    pub fn text(&self) -> String {
+        let mut out = self.words.clone();
         for (name, value) in &self.fields {
-            if name != "reply" && name != "data" {
-                out.push_str(&format!(" {name}={value}"));
+            if !is_bytes(name) {
+                out.push(format!("{name}={value}"));
             }
         }
-        out
+        out.join(" ")
     }
 }
 
-/// The bytes of a lower-case hex text, as a bench line has it.
+/// Whether a field holds bytes in hex.
+pub fn is_bytes(name: &str) -> bool {
+    name == "reply" || name == "data"
+}
+
+/// The bytes of a lower-case hex text, as a line has it.
 pub fn hex_bytes(text: &str) -> Option<Vec<u8>> {
     let plain = |byte: u8| matches!(byte, b'0'..=b'9' | b'a'..=b'f');
     if !text.bytes().all(plain) {
         return None;
     }
-    super::encode::hex_groups(text).ok()
+    hex_groups(text).ok()
 }
 
 /// The answer of `line` to `record`; None stands for a stream that is bad there.
-pub fn answer(record: Option<&Record>, line: &str) -> Answer {
-    readable(record, line).unwrap_or_else(|| {
+pub fn answer(format: Format, record: Option<&Record>, line: &str) -> Answer {
+    readable(format, record, line).unwrap_or_else(|| {
         let mut answer = Answer::new("unreadable");
         answer.add("line", line);
         answer
     })
 }
 
-fn readable(record: Option<&Record>, line: &str) -> Option<Answer> {
+fn readable(format: Format, record: Option<&Record>, line: &str) -> Option<Answer> {
     let words: Vec<&str> = line.split(' ').collect();
     if let ["BAD", offset] = words.as_slice() {
         let mut answer = Answer::new("bad");
-        answer.add("offset", offset.parse::<u64>().ok()?);
+        answer.add("offset", decimal(offset)?);
         return Some(answer);
     }
     let record = record?;
-    if words.first() != Some(&record.mark()) {
+    let (mark, words) = words.split_first()?;
+    let names = printed(format, record, words);
+    if *mark != record.mark() || words.len() != names.len() {
         return None;
     }
-    // All but the hex of a reply is decimal.
-    let mut numbers = Vec::new();
-    for word in words.iter().skip(1).take(3) {
-        if numbers.len() == 2 && words[0] == "CM" {
-            break;
+    let mut answer = Answer::default();
+    for (name, word) in names.iter().zip(words) {
+        match (*name, *word) {
+            // "bytes lower-case hex, `-` if there are none"
+            ("reply", "-") if format == Format::Probe => answer.add(name, ""),
+            ("reply", "") => return None,
+            ("reply", word) => answer.add(name, hex_bytes(word).map(|_| word)?),
+            (_, word) => answer.add(name, decimal(word)?),
         }
-        numbers.push(word.parse::<u64>().ok()?);
     }
-    let code = *numbers.first()?;
-    let mut answer = Answer::new(return_name(code));
-    answer.add("code", code);
-    match (record, numbers.as_slice()) {
-        (Record::New { .. }, [_]) => {}
-        (
-            Record::Command {
-                opcode, payload, ..
-            },
-            [_, length],
-        ) => {
-            let reply = hex_bytes(words.get(3).unwrap_or(&""))?;
-            if reply.len() as u64 != *length || words.len() > 4 {
-                return None;
-            }
-            answer.add("length", length);
-            if code == 0 && !reply.is_empty() {
-                // A reply of another length than document 01's is left whole.
-                let _ = reply_fields(&mut answer, *opcode, payload, &reply);
-                let mut hex = String::new();
-                push_hex(&mut hex, &reply);
-                answer.add("reply", hex);
-            }
-        }
-        (Record::Event { .. }, [0, stored @ 0..=1]) => {
-            answer.status = ["not-stored", "stored"][*stored as usize].to_string();
-        }
-        (Record::Media { .. }, [0, stored, dropped]) => {
-            answer.add("stored", stored);
-            answer.add("dropped", dropped);
-        }
-        (Record::Line { .. }, [0, result @ 0..=2, kind]) => {
-            answer.status = ["clean", "damaged", "unknown"][*result as usize].to_string();
-            answer.add("type", kind);
-        }
-        // "A refused EV, MD or LT prints mark and code only."
-        (Record::Event { .. } | Record::Media { .. } | Record::Line { .. }, [_]) if code != 0 => {}
-        _ => return None,
+    if let Some(code) = answer.number("code") {
+        answer.words.push(return_name(code).to_string());
     }
+    meaning(&mut answer, record)?;
     Some(answer)
 }
 
-/// Adds the fields of a reply; None if it is too short for its layout.
-fn reply_fields(answer: &mut Answer, code: u16, payload: &[u8], reply: &[u8]) -> Option<()> {
-    let at = |from: usize, length: usize| reply.get(from..from + length).map(number);
-    match code {
-        opcode::GET_EVENT_RECORDS => {
-            let flags = at(0, 1)?;
-            answer.add("flags", flags);
-            answer.add("overflow", flags & 1);
-            answer.add("more", flags >> 1 & 1);
-            answer.add("overflow-count", at(2, 2)?);
-            answer.add("first-time", at(4, 8)?);
-            answer.add("last-time", at(12, 8)?);
-            answer.add("count", at(20, 2)?);
-            let records = || reply.get(32..).unwrap_or_default().chunks_exact(128);
-            answer.add_list("handles", records().map(|record| number(&record[20..22])));
-            answer.add_list("times", records().map(|record| number(&record[24..32])));
-        }
-        opcode::GET_POLICY => {
-            answer.add_list("settings", reply.iter().map(|byte| u64::from(*byte)));
-        }
-        opcode::GET_TIMESTAMP => answer.add("timestamp", at(0, 8)?),
-        opcode::GET_SUPPORTED_LOGS => {
-            answer.add("count", at(0, 2)?);
-            answer.add("id", identifier_words(reply.get(8..24)?));
-            answer.add("size", at(24, 4)?);
-        }
-        opcode::GET_LOG => {
-            let mut hex = String::new();
-            push_hex(&mut hex, reply);
-            answer.add("data", hex);
-            // Whole effects log entries can be named only from such an offset.
-            if payload.len() == 24 && payload[16] % 4 == 0 {
-                let entries = reply.chunks_exact(4).map(|entry| {
-                    let (opcode, effect) = (number(&entry[..2]), number(&entry[2..]));
-                    format!("{opcode:04x}h:{effect}")
-                });
-                answer.add("entries", entries.collect::<Vec<_>>().join(","));
+/// A decimal number as a program prints it.
+fn decimal(text: &str) -> Option<u64> {
+    let number: u64 = text.parse().ok()?;
+    (number.to_string() == text).then_some(number)
+}
+
+/// Adds what the columns mean; None if they can mean nothing.
+fn meaning(answer: &mut Answer, record: &Record) -> Option<()> {
+    let one_of = |names: &[&str], name: &str| match answer.number(name) {
+        Some(number) => names
+            .get(number as usize)
+            .map(|name| vec![name.to_string()]),
+        None => Some(Vec::new()),
+    };
+    match record {
+        Record::Command {
+            opcode, payload, ..
+        } => {
+            let reply = hex_bytes(answer.field("reply").unwrap_or(""))?;
+            if answer.number("length") != Some(reply.len() as u64) {
+                return None;
+            }
+            if answer.number("kept").is_some_and(|kept| kept > 1) {
+                return None;
+            }
+            if answer.has("success") && !reply.is_empty() {
+                for (name, part) in layout(*opcode) {
+                    if let Some(value) = part.value(payload, &reply) {
+                        answer.add(name, value);
+                    }
+                }
             }
         }
-        opcode::IDENTIFY => {
-            let firmware = String::from_utf8_lossy(reply.get(..16)?).replace('\0', "");
-            answer.add("firmware", firmware.replace(' ', "-"));
-            let layout = [
-                ("total", 16, 8),
-                ("volatile", 24, 8),
-                ("persistent", 32, 8),
-                ("alignment", 40, 8),
-                ("log-0-size", 48, 2),
-                ("log-1-size", 50, 2),
-                ("log-2-size", 52, 2),
-                ("log-3-size", 54, 2),
-                ("label-size", 56, 4),
-                ("poison-entries", 60, 3),
-                ("inject-limit", 63, 2),
-                ("last-zeros", 65, 2),
-                ("log-4-size", 67, 2),
-            ];
-            for (name, from, length) in layout {
-                answer.add(name, at(from, length)?);
+        Record::Event { .. } => {
+            let word = one_of(&STORED, "stored")?;
+            answer.words.extend(word);
+        }
+        Record::Line { .. } => {
+            let word = one_of(&ANSWERS, "answer")?;
+            answer.words.extend(word);
+        }
+        Record::Status => {
+            let bits = answer.number("bits").filter(|bits| *bits < 32)?;
+            let waiting = (0..5).filter(|log| bits >> log & 1 == 1);
+            let mut logs: Vec<String> = waiting.map(log_word).collect();
+            if logs.is_empty() {
+                logs.push(log_word(5));
             }
+            let highest = answer.number("highest").filter(|log| *log <= 5)?;
+            answer.add("logs", logs.join(","));
+            answer.add("highest-log", log_word(highest));
         }
-        opcode::GET_POISON_LIST => {
-            let flags = at(0, 1)?;
-            answer.add("flags", flags);
-            answer.add("more", flags & 1);
-            answer.add("overflow", flags >> 1 & 1);
-            answer.add("overflow-time", at(2, 8)?);
-            answer.add("count", at(10, 2)?);
-            let records = || reply.get(32..).unwrap_or_default().chunks_exact(16);
-            let address = |record: &[u8]| number(&record[..8]);
-            answer.add_list("addresses", records().map(|r| address(r) & !7));
-            answer.add_list("types", records().map(|r| address(r) & 7));
-            answer.add_list("lengths", records().map(|r| number(&r[8..12])));
-        }
-        _ => {}
+        Record::New { .. } | Record::Media { .. } | Record::Total => {}
     }
     Some(())
+}
+
+/// The words and fields that can be stated of a record.
+fn stateable(format: Format, record: &Record) -> (Vec<&'static str>, Vec<&'static str>) {
+    let mut words = NO_ANSWER.to_vec();
+    let mut fields = columns(format, record).to_vec();
+    fields.push("offset");
+    if fields.contains(&"code") {
+        words.extend(RETURN_NAMES.iter().map(|(_, name)| *name));
+    }
+    match record {
+        Record::Command { opcode, .. } => {
+            fields.extend(layout(*opcode).iter().map(|(name, _)| *name));
+        }
+        Record::Event { .. } => words.extend(STORED),
+        Record::Line { .. } => words.extend(ANSWERS),
+        Record::Status => fields.extend(["logs", "highest-log"]),
+        Record::New { .. } | Record::Media { .. } | Record::Total => {}
+    }
+    (words, fields)
+}
+
+/// An error if a stated answer has a word, field or value that its record never
+/// gets. A `bytes` line, without a record, may hold any word and field.
+pub fn check_stated(format: Format, expected: &str, record: Option<&Record>) -> Result<(), String> {
+    let known = record.map(|record| stateable(format, record));
+    for word in expected.split_whitespace() {
+        let field = word.split_once('=');
+        if let Some((words, fields)) = &known {
+            let known = match field {
+                Some((name, _)) => fields.contains(&name),
+                None => words.contains(&word),
+            };
+            if !known {
+                let fields: Vec<String> = fields.iter().map(|name| format!("{name}=")).collect();
+                return Err(format!(
+                    "expected after `=>` one of {}, {}, not `{word}`",
+                    words.join(", "),
+                    fields.join(", ")
+                ));
+            }
+        }
+        if let Some((name, value)) = field {
+            check_value(name, value)?;
+        }
+    }
+    Ok(())
+}
+
+/// An error if a stated value is none that the field can have.
+fn check_value(name: &str, value: &str) -> Result<(), String> {
+    let (fits, what): (fn(&str) -> bool, &str) = match name {
+        "reply" | "data" => (
+            |text| text == "-" || hex_groups(text).is_ok(),
+            "bytes in hex",
+        ),
+        "logs" | "highest-log" => (
+            |name| (0..=5).any(|log| log_word(log) == name),
+            "names of logs or none",
+        ),
+        "firmware" | "id" | "entries" => return Ok(()),
+        _ => (|text| whole_number(text).is_some(), "numbers"),
+    };
+    let parts: Vec<&str> = match is_bytes(name) {
+        true => vec![value],
+        false => value.split(',').collect(),
+    };
+    // An empty list has no part to look at.
+    match value.is_empty() || parts.into_iter().all(fits) {
+        true => Ok(()),
+        false => Err(format!(
+            "expected after `=>` {name}= with {what}, not `{value}`"
+        )),
+    }
 }

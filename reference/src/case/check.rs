@@ -1,9 +1,11 @@
 //! `check`: the answers a case states against the lines a program printed.
 
-use super::answer::{answer, Answer};
-use super::encode::Item;
+use super::answer::{answer, is_bytes, Answer};
+use super::encode::Case;
+use super::fields::hex_groups;
 use super::text::whole_number;
 use super::{pairs, Pair};
+use crate::format::Format;
 
 /// The report of a check: a line for each stated answer and the totals.
 pub struct Report {
@@ -12,9 +14,10 @@ pub struct Report {
     pub failed: usize,
 }
 
-/// Checks every stated answer of the case against the bench output.
-pub fn check(items: &[Item], output: &str) -> Report {
-    let (pairs, left) = pairs(items, output);
+/// Checks every stated answer of the case against the program's output.
+pub fn check(case: &Case, output: &str) -> Report {
+    let items = &case.items;
+    let (pairs, left) = pairs(case, output);
     let mut report = Report {
         lines: Vec::new(),
         passed: 0,
@@ -29,7 +32,7 @@ pub fn check(items: &[Item], output: &str) -> Report {
         let Some(expected) = &item.line.expected else {
             continue;
         };
-        let came = pair.map_or(Answer::nothing(), came);
+        let came = pair.map_or(Answer::nothing(), |pair| came(case.format, pair));
         let number = item.line.line;
         if meets(expected, &came) {
             report.passed += 1;
@@ -53,43 +56,43 @@ pub fn check(items: &[Item], output: &str) -> Report {
     report
 }
 
-fn came(pair: &Pair) -> Answer {
+fn came(format: Format, pair: &Pair) -> Answer {
     match pair.line {
-        Some(line) => answer(pair.record.as_ref(), line),
+        Some(line) => answer(format, pair.record.as_ref(), line),
         None => Answer::nothing(),
     }
 }
 
 /// What came, with the whole reply only where the case asks for it.
 fn asked_for(expected: &str, came: &Answer) -> String {
-    let mut words = came.words();
+    let mut text = came.text();
     for name in ["reply", "data"] {
         if expected.contains(&format!("{name}=")) {
-            words.push_str(&format!(" {name}={}", came.field(name).unwrap_or("none")));
+            text.push_str(&format!(" {name}={}", came.field(name).unwrap_or("none")));
         }
     }
-    words
+    text
 }
 
-/// Whether every word of the expectation holds of the answer: a bare word is
-/// the status, `name=value` a field.
+/// Whether every word of the expectation holds of the answer; `name=value` is
+/// a field.
 pub fn meets(expected: &str, came: &Answer) -> bool {
     expected
         .split_whitespace()
         .all(|word| match word.split_once('=') {
-            None => word == came.status,
+            None => came.has(word),
             Some((name, value)) => match came.field(name) {
                 None => false,
-                Some(own) if name == "reply" || name == "data" => same_bytes(value, own),
+                Some(own) if is_bytes(name) => same_bytes(value, own),
                 Some(own) => same_values(value, own),
             },
         })
 }
 
-/// Bytes in hex, where the case may write `HH*COUNT`.
+/// Bytes in hex, where the case may write `HH*COUNT`, and `-` for none.
 fn same_bytes(stated: &str, own: &str) -> bool {
-    let stated = super::encode::hex_groups(stated);
-    stated.is_ok() && stated == super::encode::hex_groups(own)
+    let stated = hex_groups(if stated == "-" { "" } else { stated });
+    stated.is_ok() && stated == hex_groups(own)
 }
 
 /// Lists joined by commas, number by number; other values as text.

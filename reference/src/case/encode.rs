@@ -1,9 +1,13 @@
-//! From the plain lines of a case to the bytes of a bench stream.
+//! From the plain lines of a case to the bytes of a stream.
 
+use super::answer::check_stated;
+pub use super::fields::hex_groups;
+use super::fields::Fields;
 use super::text::{plain_lines, whole_number, CaseError, PlainLine};
 use crate::device::numbers::{opcode, MAILBOX, RECORD};
 use crate::device::EFFECTS_IDENTIFIER;
-use crate::stream::Record;
+use crate::format::Format;
+use crate::probe::record::{Record, MOST};
 
 /// A case line with its bytes and their place in the stream.
 #[derive(Clone, Debug, PartialEq, Eq)]
@@ -11,6 +15,21 @@ pub struct Item {
     pub line: PlainLine,
     pub offset: u64,
     pub bytes: Vec<u8>,
+}
+
+/// A case: the program that it is for, and its lines.
+#[derive(Clone, Debug, PartialEq, Eq)]
+pub struct Case {
+    pub format: Format,
+    pub items: Vec<Item>,
+}
+
+impl Case {
+    /// The whole stream.
+    pub fn stream(&self) -> Vec<u8> {
+        let bytes = self.items.iter().flat_map(|item| item.bytes.iter());
+        bytes.copied().collect()
+    }
 }
 
 /// The names of the commands, as the case text writes them.
@@ -29,17 +48,19 @@ pub const COMMANDS: [(&str, u16); 12] = [
     ("clear-poison", opcode::CLEAR_POISON),
 ];
 
-/// The items of a case text.
-pub fn items(file: &str, text: &str) -> Result<Vec<Item>, CaseError> {
+/// The case of a text.
+pub fn case(file: &str, text: &str) -> Result<Case, CaseError> {
     let error = |(line, message): (usize, String)| CaseError {
         file: file.to_string(),
         line,
         message,
     };
+    let lines = plain_lines(text).map_err(error)?;
+    let (format, lines) = program(lines).map_err(error)?;
     let mut items = Vec::new();
     let mut offset = 0;
-    for line in plain_lines(text).map_err(error)? {
-        let bytes = line_bytes(&line.words).map_err(|message| error((line.line, message)))?;
+    for line in lines {
+        let bytes = item_bytes(format, &line).map_err(|message| error((line.line, message)))?;
         let length = bytes.len() as u64;
         items.push(Item {
             line,
@@ -48,50 +69,78 @@ pub fn items(file: &str, text: &str) -> Result<Vec<Item>, CaseError> {
         });
         offset += length;
     }
-    Ok(items)
+    Ok(Case { format, items })
 }
 
-/// The whole stream of the items.
-pub fn stream_of(items: &[Item]) -> Vec<u8> {
-    items.iter().flat_map(|item| item.bytes.clone()).collect()
+/// The program that the first line names, bench if it names none, and the
+/// lines after it.
+fn program(mut lines: Vec<PlainLine>) -> Result<(Format, Vec<PlainLine>), (usize, String)> {
+    let mut words = lines
+        .first()
+        .map_or("", |line| &line.words)
+        .split_whitespace();
+    if words.next() != Some("program") {
+        return Ok((Format::Bench, lines));
+    }
+    let named = words.next().and_then(Format::named);
+    match (named, words.next(), &lines[0].expected) {
+        (Some(format), None, None) => {
+            lines.remove(0);
+            Ok((format, lines))
+        }
+        _ => {
+            let message = "expected `program bench` or `program probe`";
+            Err((lines[0].line, message.to_string()))
+        }
+    }
 }
 
-/// The bytes of one plain line.
-pub fn line_bytes(words: &str) -> Result<Vec<u8>, String> {
+/// The bytes of a plain line, whose stated answer must be one of its record.
+fn item_bytes(format: Format, line: &PlainLine) -> Result<Vec<u8>, String> {
+    let record = record(format, &line.words)?;
+    if let Some(expected) = &line.expected {
+        check_stated(format, expected, record.as_ref())?;
+    }
+    bytes_of(format, &line.words, record.as_ref())
+}
+
+/// The bytes of the words of one line.
+pub fn line_bytes(format: Format, words: &str) -> Result<Vec<u8>, String> {
+    bytes_of(format, words, record(format, words)?.as_ref())
+}
+
+fn bytes_of(format: Format, words: &str, record: Option<&Record>) -> Result<Vec<u8>, String> {
+    match record {
+        Some(record) => format
+            .bytes(record)
+            .ok_or_else(|| "expected a record of the case's program".to_string()),
+        None => raw_bytes(words.strip_prefix("bytes").unwrap_or_default()),
+    }
+}
+
+/// The record of a line; None for a `bytes` line.
+fn record(format: Format, words: &str) -> Result<Option<Record>, String> {
     let (first, rest) = words.split_once(char::is_whitespace).unwrap_or((words, ""));
     if first == "bytes" {
-        return raw_bytes(rest);
+        return Ok(None);
     }
-    record(first, rest).map(|record| record.bytes())
-}
-
-fn record(first: &str, rest: &str) -> Result<Record, String> {
+    if first == "program" {
+        return Err("expected `program` on the first line only".to_string());
+    }
+    if !format.kinds().contains(&first) {
+        let kinds = format.kinds().join(", ");
+        return Err(format!(
+            "expected {kinds}, bytes, repeat or end, not `{first}`"
+        ));
+    }
     let mut fields = Fields::new(rest)?;
     let record = match first {
-        "new" => {
-            let units = "expected `new VOLATILE PERSISTENT`, each from 0 to 65535";
-            let unit = |text: &String| whole_number(text).and_then(|n| u16::try_from(n).ok());
-            match fields.bare.as_slice() {
-                [volatile, persistent] => Record::New {
-                    volatile: unit(volatile).ok_or(units)?,
-                    persistent: unit(persistent).ok_or(units)?,
-                },
-                _ => return Err(units.to_string()),
-            }
-        }
-        "command" => {
-            let time = fields.number_or("time", u64::MAX, 0)?;
-            let (opcode, payload) = command(&mut fields)?;
-            Record::Command {
-                time,
-                opcode,
-                payload,
-            }
-        }
+        "new" => new(&fields)?,
+        "command" => command(format, &mut fields)?,
         "event" => Record::Event {
             time: fields.number_or("time", u64::MAX, 0)?,
             log: fields.number("log", 255)? as u8,
-            record: event_record(&mut fields)?,
+            record: event_record(format, &mut fields)?,
         },
         "media" => Record::Media {
             time: fields.number_or("time", u64::MAX, 0)?,
@@ -102,47 +151,80 @@ fn record(first: &str, rest: &str) -> Result<Record, String> {
         "line" => Record::Line {
             address: fields.number("address", u64::MAX)?,
         },
-        _ => {
-            return Err(format!(
-                "expected new, command, event, media, line, bytes, repeat or end, not `{first}`"
-            ))
-        }
+        "status" => Record::Status,
+        _ => Record::Total,
     };
-    fields.all_used(first)?;
-    Ok(record)
+    let bare = match record {
+        Record::New { .. } => 2,
+        Record::Command { .. } => 1,
+        _ => 0,
+    };
+    fields.all_used(bare)?;
+    Ok(Some(record))
 }
 
-/// Opcode and payload of a `command` line.
-fn command(fields: &mut Fields) -> Result<(u16, Vec<u8>), String> {
-    let given = fields.take("opcode");
-    let code = match (fields.bare.first(), given) {
-        (None, Some(text)) => whole_number(&text)
-            .and_then(|n| u16::try_from(n).ok())
-            .ok_or("expected opcode= from 0 to 0xffff")?,
-        (Some(name), None) => {
-            let known = COMMANDS.iter().find(|(known, _)| known == name);
-            known
-                .ok_or_else(|| {
-                    let names: Vec<&str> = COMMANDS.iter().map(|(name, _)| *name).collect();
-                    format!(
-                        "expected opcode= or one of {}, not `{name}`",
-                        names.join(", ")
-                    )
-                })?
-                .1
-        }
-        _ => return Err("expected one command name or opcode=".to_string()),
+/// A `new` line.
+fn new(fields: &Fields) -> Result<Record, String> {
+    let units = "expected `new VOLATILE PERSISTENT`, each from 0 to 65535";
+    let unit = |text: &String| whole_number(text).and_then(|n| u16::try_from(n).ok());
+    match fields.bare.as_slice() {
+        [volatile, persistent] => Ok(Record::New {
+            volatile: unit(volatile).ok_or(units)?,
+            persistent: unit(persistent).ok_or(units)?,
+        }),
+        _ => Err(units.to_string()),
+    }
+}
+
+/// A `command` line. Bench lends a whole mailbox and has no words for it.
+fn command(format: Format, fields: &mut Fields) -> Result<Record, String> {
+    let time = fields.number_or("time", u64::MAX, 0)?;
+    let (room, fill) = match format {
+        Format::Bench => (MAILBOX as u64, 0),
+        Format::Probe => (
+            fields.number_or("room", MOST as u64, MAILBOX as u64)?,
+            fields.fill()?.unwrap_or(0),
+        ),
     };
+    let opcode = opcode_of(fields)?;
     let raw = fields.take("raw").or(fields.take("payload"));
     let payload = match raw {
         Some(text) => hex_groups(&text)?,
         None if fields.bare.is_empty() => Vec::new(),
-        None => payload(code, fields)?,
+        None => payload(opcode, fields)?,
     };
-    if payload.len() > MAILBOX {
-        return Err("expected a payload of at most 2048 bytes (see `bytes`)".to_string());
+    let most = format.most_payload();
+    if payload.len() > most {
+        return Err(format!(
+            "expected a payload of at most {most} bytes (see `bytes`)"
+        ));
     }
-    Ok((code, payload))
+    Ok(Record::Command {
+        time,
+        opcode,
+        room: room as u16,
+        fill,
+        payload,
+    })
+}
+
+/// The opcode that a `command` line names or gives as a number.
+fn opcode_of(fields: &mut Fields) -> Result<u16, String> {
+    let given = fields.take("opcode");
+    match (fields.bare.first(), given) {
+        (None, Some(text)) => whole_number(&text)
+            .and_then(|n| u16::try_from(n).ok())
+            .ok_or("expected opcode= from 0 to 0xffff".to_string()),
+        (Some(name), None) => {
+            let known = COMMANDS.iter().find(|(known, _)| known == name);
+            known.map(|(_, code)| *code).ok_or_else(|| {
+                let names: Vec<&str> = COMMANDS.iter().map(|(name, _)| *name).collect();
+                let names = names.join(", ");
+                format!("expected opcode= or one of {names}, not `{name}`")
+            })
+        }
+        _ => Err("expected one command name or opcode=".to_string()),
+    }
 }
 
 /// The payload of a command out of its fields.
@@ -196,17 +278,25 @@ fn payload(code: u16, fields: &mut Fields) -> Result<Vec<u8>, String> {
     Ok(out)
 }
 
-/// The 128 bytes of an `event` line.
-fn event_record(fields: &mut Fields) -> Result<Vec<u8>, String> {
-    let record = match (fields.take("bytes"), fields.take("fill")) {
-        (Some(text), None) => hex_groups(&text)?,
-        (None, Some(text)) => hex_groups(&format!("{text}*{RECORD}"))?,
-        _ => return Err("expected bytes=HEX of 128 bytes or fill=HH".to_string()),
+/// The bytes of an `event` line: 128 for bench, any number for probe.
+fn event_record(format: Format, fields: &mut Fields) -> Result<Vec<u8>, String> {
+    let (size, fits) = match format {
+        Format::Bench => ("128", RECORD..=RECORD),
+        Format::Probe => ("at most 4096", 0..=MOST),
     };
-    if record.len() != RECORD {
+    let record = match (fields.take("bytes"), fields.fill()?) {
+        (Some(text), None) => hex_groups(&text)?,
+        (None, Some(fill)) if format == Format::Probe => {
+            let length = fields.number_or("length", MOST as u64, RECORD as u64)?;
+            vec![fill; length as usize]
+        }
+        (None, Some(fill)) => vec![fill; RECORD],
+        _ => return Err(format!("expected bytes=HEX of {size} bytes or fill=HH")),
+    };
+    if !fits.contains(&record.len()) {
+        let length = record.len();
         return Err(format!(
-            "expected an event record of 128 bytes, not {}",
-            record.len()
+            "expected an event record of {size} bytes, not {length}"
         ));
     }
     Ok(record)
@@ -225,107 +315,4 @@ fn raw_bytes(text: &str) -> Result<Vec<u8>, String> {
         }
     }
     Ok(out)
-}
-
-/// Hex groups joined by commas, each repeated by `*COUNT`: `0102,00*6`.
-pub fn hex_groups(text: &str) -> Result<Vec<u8>, String> {
-    let wrong = || format!("expected bytes in hex, two digits each, not `{text}`");
-    let mut out = Vec::new();
-    for group in text.split(',').filter(|group| !group.is_empty()) {
-        let (digits, times) = group.split_once('*').unwrap_or((group, "1"));
-        let times = whole_number(times)
-            .filter(|n| *n <= 1 << 20)
-            .ok_or_else(wrong)?;
-        if digits.len() % 2 != 0 || !digits.bytes().all(|b| b.is_ascii_hexdigit()) {
-            return Err(wrong());
-        }
-        let mut bytes = Vec::new();
-        for at in (0..digits.len()).step_by(2) {
-            bytes.push(u8::from_str_radix(&digits[at..at + 2], 16).map_err(|_| wrong())?);
-        }
-        for _ in 0..times {
-            out.extend(&bytes);
-        }
-    }
-    Ok(out)
-}
-
-/// The words of a line: bare ones and `name=value` ones.
-struct Fields {
-    bare: Vec<String>,
-    named: Vec<(String, String)>,
-}
-
-impl Fields {
-    fn new(text: &str) -> Result<Fields, String> {
-        let mut fields = Fields {
-            bare: Vec::new(),
-            named: Vec::new(),
-        };
-        for word in text.split_whitespace() {
-            match word.split_once('=') {
-                Some((name, value)) => {
-                    if fields.named.iter().any(|(known, _)| known == name) {
-                        return Err(format!("expected {name}= once"));
-                    }
-                    fields.named.push((name.to_string(), value.to_string()));
-                }
-                None => fields.bare.push(word.to_string()),
-            }
-        }
-        Ok(fields)
-    }
-
-    fn take(&mut self, name: &str) -> Option<String> {
-        let at = self.named.iter().position(|(known, _)| known == name)?;
-        Some(self.named.remove(at).1)
-    }
-
-    fn number(&mut self, name: &str, most: u64) -> Result<u64, String> {
-        let text = self.take(name).ok_or(format!("expected {name}=NUMBER"))?;
-        let fits = whole_number(&text).filter(|number| *number <= most);
-        fits.ok_or_else(|| format!("expected {name}= from 0 to {most}, not `{text}`"))
-    }
-
-    fn number_or(&mut self, name: &str, most: u64, other: u64) -> Result<u64, String> {
-        match self.named.iter().any(|(known, _)| known == name) {
-            true => self.number(name, most),
-            false => Ok(other),
-        }
-    }
-
-    /// A list of numbers joined by commas; empty if not given.
-    fn list(&mut self, name: &str, most: u64) -> Result<Vec<u64>, String> {
-        let text = self.take(name).unwrap_or_default();
-        let parts = text.split(',').filter(|part| !part.is_empty());
-        let numbers = parts.map(|part| whole_number(part).filter(|n| *n <= most));
-        let list: Option<Vec<u64>> = numbers.collect();
-        list.ok_or_else(|| format!("expected {name}= as numbers from 0 to {most}, not `{text}`"))
-    }
-
-    fn hex_or(&mut self, name: &str, length: usize, other: u8) -> Result<Vec<u8>, String> {
-        let bytes = match self.take(name) {
-            Some(text) => hex_groups(&text)?,
-            None => vec![other; length],
-        };
-        match bytes.len() == length {
-            true => Ok(bytes),
-            false => Err(format!("expected {name}= of {length} bytes")),
-        }
-    }
-
-    fn all_used(&self, first: &str) -> Result<(), String> {
-        let bare = if first == "new" {
-            2
-        } else {
-            usize::from(first == "command")
-        };
-        if let Some((name, _)) = self.named.first() {
-            return Err(format!("expected no `{name}=` here"));
-        }
-        match self.bare.get(bare) {
-            Some(word) => Err(format!("expected no `{word}` here")),
-            None => Ok(()),
-        }
-    }
 }

@@ -1,16 +1,14 @@
-//! `explain`: each bench line in words beside the case line it answers.
+//! `explain`: each line of an output in words beside the case line it answers.
 
-use super::answer::{answer, hex_bytes, Answer};
-use super::encode::{Item, COMMANDS};
+use super::answer::{answer, hex_bytes, Answer, LOG_NAMES};
+use super::encode::{Case, COMMANDS};
 use super::pairs;
 use crate::device::numbers::{number, opcode};
-use crate::stream::Record;
-
-const LOG_NAMES: [&str; 5] = ["Info", "Warning", "Failure", "Fatal", "Dynamic Capacity"];
+use crate::probe::record::Record;
 
 /// The whole explanation.
-pub fn explain(items: &[Item], output: &str) -> String {
-    let (pairs, left) = pairs(items, output);
+pub fn explain(case: &Case, output: &str) -> String {
+    let (pairs, left) = pairs(case, output);
     let mut out = String::new();
     let mut say = |text: String| {
         out.push_str(&text);
@@ -23,7 +21,7 @@ pub fn explain(items: &[Item], output: &str) -> String {
             say("    no line was printed".to_string());
             continue;
         };
-        let answer = answer(pair.record.as_ref(), line);
+        let answer = answer(case.format, pair.record.as_ref(), line);
         for text in in_words(pair.record.as_ref(), &answer) {
             say(format!("    {text}"));
         }
@@ -42,46 +40,130 @@ fn cut(text: &str) -> String {
     }
 }
 
+/// `1 byte`, `2,048 bytes`.
+fn counted(count: u64, one: &str, more: &str) -> String {
+    let digits = count.to_string();
+    let mut grouped = String::new();
+    for (at, digit) in digits.chars().enumerate() {
+        if at > 0 && (digits.len() - at) % 3 == 0 {
+            grouped.push(',');
+        }
+        grouped.push(digit);
+    }
+    format!("{grouped} {}", if count == 1 { one } else { more })
+}
+
+fn bytes(count: u64) -> String {
+    counted(count, "byte", "bytes")
+}
+
+fn lines(count: u64) -> String {
+    counted(count, "line", "lines")
+}
+
+/// The number of records that a reply names.
+fn records(answer: &Answer) -> String {
+    counted(answer.number("count").unwrap_or(0), "record", "records")
+}
+
 fn in_words(record: Option<&Record>, answer: &Answer) -> Vec<String> {
     let field = |name: &str| answer.field(name).unwrap_or("?").to_string();
-    let status = answer.status.as_str();
-    match status {
-        "bad" => return vec![format!("the stream is bad at offset {}", field("offset"))],
-        "unreadable" => {
-            return vec![format!(
-                "not a line of this record: {}",
-                cut(&field("line"))
-            )]
-        }
-        _ => {}
+    if answer.has("bad") {
+        return vec![format!("the stream is bad at offset {}", field("offset"))];
     }
-    let refused = answer.field("code").is_some_and(|code| code != "0");
-    if refused {
-        let code: u64 = field("code").parse().unwrap_or(0);
-        let device_side = !matches!(record, Some(Record::Command { .. }));
-        let reply = if device_side { "" } else { ", no reply" };
-        return vec![format!("refused: {status} ({code:04X}h){reply}")];
-    }
+    let Some(record) = record.filter(|_| !answer.has("unreadable")) else {
+        let line = cut(&field("line"));
+        return vec![format!("not a line of this record: {line}")];
+    };
     match record {
-        Some(Record::New { .. }) => vec!["success: the device is made".to_string()],
-        Some(Record::Event { .. }) => vec![match status {
-            "stored" => "success: the event record is stored".to_string(),
-            _ => "success: not stored, the log is full and counts an overflow".to_string(),
-        }],
-        Some(Record::Media { .. }) => vec![format!(
-            "success: {} lines stored, {} lines dropped",
-            field("stored"),
-            field("dropped")
+        Record::New { .. } => vec![made(answer)],
+        Record::Event { .. } => vec![event_report(answer)],
+        Record::Media { .. } => vec![media_report(answer)],
+        Record::Line { .. } => vec![line_test(answer)],
+        Record::Status => status(answer),
+        Record::Total => vec![format!(
+            "damage total: {}",
+            lines(answer.number("lines").unwrap_or(0))
         )],
-        Some(Record::Line { .. }) => vec![match status {
-            "damaged" => format!("damaged, type {}", type_words(&field("type"))),
-            other => other.to_string(),
-        }],
-        Some(Record::Command {
-            opcode, payload, ..
-        }) => command_in_words(*opcode, payload, answer),
-        None => vec![answer.words()],
+        Record::Command {
+            opcode,
+            payload,
+            room,
+            fill,
+            ..
+        } => {
+            let buffer = buffer(answer, u64::from(*room), *fill);
+            let mut out = vec![command_head(*opcode, answer) + &buffer];
+            reply_words(*opcode, payload, answer, &mut out);
+            out
+        }
     }
+}
+
+/// `refused: invalid input (0002h)`, or None of a call that is not refused.
+fn refusal(answer: &Answer) -> Option<String> {
+    let code = answer.number("code").filter(|code| *code != 0)?;
+    let name = answer.words.first()?.replace('-', " ");
+    Some(format!("refused: {name} ({code:04X}h)"))
+}
+
+fn made(answer: &Answer) -> String {
+    match refusal(answer) {
+        Some(refused) => format!("{refused}; the device beside it has one volatile unit"),
+        None => "success: the device is made".to_string(),
+    }
+}
+
+fn event_report(answer: &Answer) -> String {
+    match refusal(answer) {
+        None if answer.has("stored") => "success: the event record is stored".to_string(),
+        None => "success: not stored, the log is full and counts an overflow".to_string(),
+        Some(refused) if answer.has("stored") => format!("{refused}, BUT STORED"),
+        Some(refused) if answer.has("not-stored") => format!("{refused}, not stored"),
+        Some(refused) => refused,
+    }
+}
+
+fn media_report(answer: &Answer) -> String {
+    let (Some(stored), Some(dropped)) = (answer.number("stored"), answer.number("dropped")) else {
+        return refusal(answer).unwrap_or_default();
+    };
+    let counts = format!("{} stored, {} dropped", lines(stored), lines(dropped));
+    match refusal(answer) {
+        None => format!("success: {counts}"),
+        Some(refused) if (stored, dropped) != (0, 0) => format!("{refused}, BUT {counts}"),
+        Some(refused) => format!("{refused}, {counts}"),
+    }
+}
+
+fn line_test(answer: &Answer) -> String {
+    let kind = answer.field("type").unwrap_or("?");
+    let word = answer.words.last().map_or("?", |word| word);
+    match refusal(answer) {
+        None if word == "damaged" => format!("damaged, type {}", type_words(kind)),
+        None => word.to_string(),
+        Some(refused) if answer.field("answer").is_none() => refused,
+        Some(refused) if (word, kind) == ("unknown", "0") => format!("{refused}, unknown, type 0"),
+        Some(refused) => format!("{refused}, BUT {word}, type {}", type_words(kind)),
+    }
+}
+
+/// Which logs wait, how many and the highest.
+fn status(answer: &Answer) -> Vec<String> {
+    let value = |name: &str| answer.number(name).unwrap_or(0);
+    let name = |log: u64| match LOG_NAMES.get(log as usize) {
+        Some(name) => format!("{log} ({name})"),
+        None => format!("{log} (none)"),
+    };
+    let waiting = (0..5).filter(|log| value("bits") >> log & 1 == 1).map(name);
+    let waiting: Vec<String> = waiting.collect();
+    let logs = match waiting.is_empty() {
+        true => "no log waits".to_string(),
+        false => format!("waiting: log {}", waiting.join(", log ")),
+    };
+    let count = counted(value("waiting"), "log", "logs");
+    let highest = name(value("highest"));
+    vec![format!("{logs}; {count} waiting, the highest is {highest}")]
 }
 
 fn type_words(kind: &str) -> String {
@@ -96,27 +178,63 @@ fn type_words(kind: &str) -> String {
     format!("{kind} ({name})")
 }
 
-fn command_in_words(code: u16, payload: &[u8], answer: &Answer) -> Vec<String> {
+fn command_head(code: u16, answer: &Answer) -> String {
+    let length = answer.number("length").unwrap_or(0);
+    if let Some(refused) = refusal(answer) {
+        return format!("{refused}: length {length}");
+    }
     let name = COMMANDS.iter().find(|(_, known)| *known == code);
     let name = name.map_or(format!("opcode {code:04X}h"), |(name, _)| name.to_string());
-    let length = answer.field("length").unwrap_or("?");
-    let mut out = vec![format!("success: {name}, reply length {length}")];
-    let Some(reply) = answer.field("reply").and_then(hex_bytes) else {
-        return out;
+    match length {
+        0 => format!("success: {name}, no reply"),
+        length => format!("success: {name}, reply of {}", bytes(length)),
+    }
+}
+
+/// The bytes of the buffer that the answer should not have touched. Bench's
+/// line does not tell of them.
+fn buffer(answer: &Answer, room: u64, fill: u8) -> String {
+    let (Some(kept), Some(length)) = (answer.number("kept"), answer.number("length")) else {
+        return String::new();
     };
-    match code {
-        opcode::GET_EVENT_RECORDS => event_words(payload, answer, &reply, &mut out),
-        opcode::GET_POLICY => {
-            for (log, setting) in reply.iter().enumerate() {
-                let name = LOG_NAMES.get(log).unwrap_or(&"?");
-                let what = match setting {
-                    0 => "disabled".to_string(),
-                    setting => format!("vector {}, mode {}", setting >> 4, setting & 3),
-                };
-                out.push(format!("log {log} ({name}): {setting:02x}h, {what}"));
-            }
+    if length > room {
+        return format!(", LONGER THAN THE BUFFER of {}", bytes(room));
+    }
+    let others = bytes(room - length);
+    let other = if length == 0 { "" } else { "other " };
+    let all = if length == 0 && room > 1 {
+        "all"
+    } else {
+        "the"
+    };
+    match (kept, room - length) {
+        (0, _) => {
+            format!(", NOT KEPT: the {other}{others} of the buffer are no longer all {fill:#04x}")
         }
-        opcode::GET_POISON_LIST => poison_words(answer, &reply, &mut out),
+        (_, 0) if room == 0 => ", the buffer is empty".to_string(),
+        (_, 0) => ", which is the whole buffer".to_string(),
+        _ => format!(", {all} {other}{others} of the buffer still {fill:#04x}"),
+    }
+}
+
+/// The lines about the bytes of a reply.
+fn reply_words(code: u16, payload: &[u8], answer: &Answer, out: &mut Vec<String>) {
+    let reply = answer
+        .field("reply")
+        .and_then(hex_bytes)
+        .unwrap_or_default();
+    if reply.is_empty() {
+        return;
+    }
+    if !answer.has("success") {
+        let hex = cut(answer.field("reply").unwrap_or("?"));
+        out.push(format!("BYTES OF A REFUSED COMMAND: {hex}"));
+        return;
+    }
+    match code {
+        opcode::GET_EVENT_RECORDS => event_words(payload, answer, &reply, out),
+        opcode::GET_POLICY => policy_words(&reply, out),
+        opcode::GET_POISON_LIST => poison_words(answer, &reply, out),
         opcode::GET_LOG => {
             if let Some(entries) = answer.field("entries") {
                 for entry in entries.split(',') {
@@ -129,13 +247,23 @@ fn command_in_words(code: u16, payload: &[u8], answer: &Answer) -> Vec<String> {
         }
         _ => {
             for (name, value) in &answer.fields {
-                if !["code", "length", "reply"].contains(&name.as_str()) {
+                if !["code", "length", "reply", "kept"].contains(&name.as_str()) {
                     out.push(format!("{name} {value}"));
                 }
             }
         }
     }
-    out
+}
+
+fn policy_words(reply: &[u8], out: &mut Vec<String>) {
+    for (log, setting) in reply.iter().enumerate() {
+        let name = LOG_NAMES.get(log).unwrap_or(&"?");
+        let what = match setting {
+            0 => "disabled".to_string(),
+            setting => format!("vector {}, mode {}", setting >> 4, setting & 3),
+        };
+        out.push(format!("log {log} ({name}): {setting:02x}h, {what}"));
+    }
 }
 
 fn event_words(payload: &[u8], answer: &Answer, reply: &[u8], out: &mut Vec<String>) {
@@ -143,11 +271,11 @@ fn event_words(payload: &[u8], answer: &Answer, reply: &[u8], out: &mut Vec<Stri
     let log = payload.first().copied().unwrap_or(255);
     let name = LOG_NAMES.get(usize::from(log)).unwrap_or(&"?");
     out.push(format!(
-        "log {log} ({name}): flags {} (overflow {}, more {}), {} records",
+        "log {log} ({name}): flags {} (overflow {}, more {}), {}",
         field("flags"),
         field("overflow"),
         field("more"),
-        field("count")
+        records(answer)
     ));
     out.push(format!(
         "overflow count {}, first time {}, last time {}",
@@ -173,21 +301,21 @@ fn event_words(payload: &[u8], answer: &Answer, reply: &[u8], out: &mut Vec<Stri
 fn poison_words(answer: &Answer, reply: &[u8], out: &mut Vec<String>) {
     let field = |name: &str| answer.field(name).unwrap_or("?").to_string();
     out.push(format!(
-        "flags {} (more {}, overflow {}), overflow time {}, {} records",
+        "flags {} (more {}, overflow {}), overflow time {}, {}",
         field("flags"),
         field("more"),
         field("overflow"),
         field("overflow-time"),
-        field("count")
+        records(answer)
     ));
     for record in reply.get(32..).unwrap_or_default().chunks_exact(16) {
         let address = number(&record[..8]);
         out.push(format!(
-            "record: address {} ({:#x}), type {}, {} lines",
+            "record: address {} ({:#x}), type {}, {}",
             address & !7,
             address & !7,
             type_words(&(address & 7).to_string()),
-            number(&record[8..12])
+            lines(number(&record[8..12]))
         ));
     }
 }

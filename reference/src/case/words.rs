@@ -4,7 +4,8 @@ use super::encode::{line_bytes, COMMANDS};
 use crate::bench::push_hex;
 use crate::device::numbers::{number, opcode, RECORD};
 use crate::device::EFFECTS_IDENTIFIER;
-use crate::stream::Record;
+use crate::format::Format;
+use crate::probe::record::Record;
 
 /// Lower-case hex of bytes; equal bytes are written as `HH*COUNT`.
 pub fn hex_text(bytes: &[u8]) -> String {
@@ -19,8 +20,28 @@ pub fn hex_text(bytes: &[u8]) -> String {
     out
 }
 
-/// The case text of a record. It encodes to the same bytes again.
-pub fn record_words(record: &Record) -> String {
+/// The case text of a whole stream. It encodes to the same bytes again; a bad
+/// rest is one `bytes` line.
+pub fn stream_words(format: Format, stream: &[u8]) -> String {
+    let mut lines = Vec::new();
+    if format == Format::Probe {
+        lines.push("program probe".to_string());
+    }
+    for (offset, record) in format.records(stream) {
+        lines.push(match record {
+            Some(record) => line_words(format, &record),
+            None => {
+                let mut text = "bytes ".to_string();
+                push_hex(&mut text, &stream[offset as usize..]);
+                text
+            }
+        });
+    }
+    lines.iter().map(|line| line.clone() + "\n").collect()
+}
+
+/// The case text of a record in a case of this format.
+pub fn line_words(format: Format, record: &Record) -> String {
     match record {
         Record::New {
             volatile,
@@ -29,14 +50,18 @@ pub fn record_words(record: &Record) -> String {
         Record::Command {
             time,
             opcode,
+            room,
+            fill,
             payload,
-        } => command_words(*time, *opcode, payload),
+        } => {
+            let mut head = format!("command time={time}");
+            if format == Format::Probe {
+                head.push_str(&format!(" room={room} fill={fill:02x}"));
+            }
+            command_words(format, &head, *opcode, payload)
+        }
         Record::Event { time, log, record } => {
-            let fill = record.iter().all(|byte| *byte == record[0]);
-            let mut text = String::new();
-            push_hex(&mut text, &record[..if fill { 1 } else { RECORD }]);
-            let name = if fill { "fill" } else { "bytes" };
-            format!("event time={time} log={log} {name}={text}")
+            format!("event time={time} log={log} {}", event_words(record))
         }
         Record::Media {
             time,
@@ -45,25 +70,40 @@ pub fn record_words(record: &Record) -> String {
             kind,
         } => format!("media time={time} address={address} lines={lines} type={kind}"),
         Record::Line { address } => format!("line address={address}"),
+        Record::Status => "status".to_string(),
+        Record::Total => "total".to_string(),
     }
 }
 
-fn command_words(time: u64, code: u16, payload: &[u8]) -> String {
-    if let Some((name, _)) = COMMANDS.iter().find(|(_, known)| *known == code) {
-        let words = format!("command time={time} {name}{}", payload_words(code, payload));
-        // Only if the fields say the whole payload; else it is written raw.
-        let again = Record::Command {
-            time,
-            opcode: code,
-            payload: payload.to_vec(),
-        };
-        if line_bytes(&words).as_deref() == Ok(&again.bytes()) {
-            return words;
-        }
-        return format!("command time={time} {name} raw={}", hex_text(payload));
+/// The bytes of an event record: equal ones by `fill`, of 128 if not said.
+fn event_words(record: &[u8]) -> String {
+    let equal = record.iter().all(|byte| *byte == record[0]);
+    let mut text = String::new();
+    if !equal || record.is_empty() {
+        push_hex(&mut text, record);
+        return format!("bytes={text}");
     }
-    let payload = hex_text(payload);
-    format!("command time={time} opcode={code:#06x} payload={payload}")
+    push_hex(&mut text, &record[..1]);
+    match record.len() {
+        RECORD => format!("fill={text}"),
+        length => format!("fill={text} length={length}"),
+    }
+}
+
+/// The words of a command after those of its time and buffer.
+fn command_words(format: Format, head: &str, code: u16, payload: &[u8]) -> String {
+    let raw = hex_text(payload);
+    let Some((name, _)) = COMMANDS.iter().find(|(_, known)| *known == code) else {
+        return format!("{head} opcode={code:#06x} payload={raw}");
+    };
+    let words = format!("{head} {name}{}", payload_words(code, payload));
+    let raw = format!("{head} {name} raw={raw}");
+    // Only if the fields say the whole payload; else it is written raw.
+    let bytes = line_bytes(format, &words);
+    match bytes.is_ok() && bytes == line_bytes(format, &raw) {
+        true => words,
+        false => raw,
+    }
 }
 
 /// The fields of a payload of the right length, each after a blank.

@@ -26,6 +26,34 @@ pub enum Fault {
     RecordsNotCut,
     MoreFlagAt126,
     OverflowFlagByRange,
+    BytePastReply,
+    BufferWrittenOnRefusal,
+    RoomAfterOpcode,
+    RoomAfterLength,
+    RoomAfterOwnChecks,
+    RoomAfterChange,
+    RoomByReply,
+    Room2048Refused,
+    PayloadLimitAfterOpcode,
+    EventOf127Taken,
+    EventOf129Taken,
+    EventLogBeforeSize,
+    RefusedMakeKeepsDevice,
+    RefusedMakeIsPersistent,
+    RefusedMakeIsOfMostUnits,
+    LaterMakeKeepsClock,
+    LaterMakeKeepsPolicy,
+    LaterMakeKeepsPoison,
+    LaterMakeKeepsFlag,
+    LaterMakeKeepsHandles,
+    HighestWaitingOneMore,
+    NoneWaitingIs0,
+    WaitingCountsRecords,
+    TotalCountsDropped,
+    TotalCountsEntries,
+    RefusedEventIsStored,
+    RefusedMediaIsDropped,
+    RefusedLineIsClean,
 }
 
 /// A fault with its name for `--fault` and what it does.
@@ -39,7 +67,7 @@ const fn line(fault: Fault, name: &'static str, what: &'static str) -> FaultLine
     FaultLine { fault, name, what }
 }
 
-/// Every planted fault.
+/// The planted faults that bench and probe can both see.
 pub const FAULTS: &[FaultLine] = &[
     line(
         Fault::OverflowCountWraps,
@@ -150,5 +178,150 @@ pub const FAULTS: &[FaultLine] = &[
         Fault::OverflowFlagByRange,
         "overflow-flag-by-range",
         "Get Poison List gives the overflow flag only beside a record",
+    ),
+];
+
+/// The planted faults that probe alone can see: those about the lent buffer,
+/// about calls and answers that bench does not print, and about later makes.
+pub const PROBE_FAULTS: &[FaultLine] = &[
+    line(
+        Fault::BytePastReply,
+        "byte-past-reply",
+        "the byte after the reply is set to 0",
+    ),
+    line(
+        Fault::BufferWrittenOnRefusal,
+        "buffer-written-on-refusal",
+        "a refused command fills the buffer with zeros",
+    ),
+    line(
+        Fault::RoomAfterOpcode,
+        "room-after-opcode",
+        "0003h is given before 0100h",
+    ),
+    line(
+        Fault::RoomAfterLength,
+        "room-after-length",
+        "0016h is given before 0100h",
+    ),
+    line(
+        Fault::RoomAfterOwnChecks,
+        "room-after-own-checks",
+        "the command's own checks come before 0100h",
+    ),
+    line(
+        Fault::RoomAfterChange,
+        "room-after-change",
+        "a command that is refused with 0100h changes the device",
+    ),
+    line(
+        Fault::RoomByReply,
+        "room-by-reply",
+        "0100h is given only if the reply does not fit",
+    ),
+    line(
+        Fault::Room2048Refused,
+        "room-2048-refused",
+        "0100h is given for a buffer of 2,048 bytes",
+    ),
+    line(
+        Fault::PayloadLimitAfterOpcode,
+        "payload-limit-after-opcode",
+        "0003h is given before 0016h for a payload over 2,048 bytes",
+    ),
+    line(
+        Fault::EventOf127Taken,
+        "event-of-127-taken",
+        "an event record of 127 bytes is taken",
+    ),
+    line(
+        Fault::EventOf129Taken,
+        "event-of-129-taken",
+        "an event record of 129 bytes is taken",
+    ),
+    line(
+        Fault::EventLogBeforeSize,
+        "event-log-before-size",
+        "an event report gives 0002h for the log before 0016h",
+    ),
+    line(
+        Fault::RefusedMakeKeepsDevice,
+        "refused-make-keeps-device",
+        "the old device is used on after a refused make",
+    ),
+    line(
+        Fault::RefusedMakeIsPersistent,
+        "refused-make-is-persistent",
+        "the device beside a refused make has a persistent unit",
+    ),
+    line(
+        Fault::RefusedMakeIsOfMostUnits,
+        "refused-make-is-of-most-units",
+        "the device beside a refused make has 1,023 volatile units",
+    ),
+    line(
+        Fault::LaterMakeKeepsClock,
+        "later-make-keeps-clock",
+        "a later make keeps the old device's clock",
+    ),
+    line(
+        Fault::LaterMakeKeepsPolicy,
+        "later-make-keeps-policy",
+        "a later make keeps the old device's policy",
+    ),
+    line(
+        Fault::LaterMakeKeepsPoison,
+        "later-make-keeps-poison",
+        "a later make keeps the old device's poison list",
+    ),
+    line(
+        Fault::LaterMakeKeepsFlag,
+        "later-make-keeps-flag",
+        "a later make keeps the old device's poison overflow flag and time",
+    ),
+    line(
+        Fault::LaterMakeKeepsHandles,
+        "later-make-keeps-handles",
+        "a later make goes on with the old device's event handles",
+    ),
+    line(
+        Fault::HighestWaitingOneMore,
+        "highest-waiting-one-more",
+        "event status gives the highest log waiting plus one",
+    ),
+    line(
+        Fault::NoneWaitingIs0,
+        "none-waiting-is-0",
+        "event status gives log 0 as the highest if none is waiting",
+    ),
+    line(
+        Fault::WaitingCountsRecords,
+        "waiting-counts-records",
+        "event status counts records, not logs",
+    ),
+    line(
+        Fault::TotalCountsDropped,
+        "total-counts-dropped",
+        "the damage total counts dropped lines too",
+    ),
+    line(
+        Fault::TotalCountsEntries,
+        "total-counts-entries",
+        "the damage total counts entries, not lines",
+    ),
+    line(
+        Fault::RefusedEventIsStored,
+        "refused-event-is-stored",
+        "a refused event report answers stored",
+    ),
+    line(
+        Fault::RefusedMediaIsDropped,
+        "refused-media-is-dropped",
+        "a refused media report answers its lines as dropped",
+    ),
+    line(
+        Fault::RefusedLineIsClean,
+        "refused-line-is-clean",
+        "a refused line test answers Clean",
     ),
 ];

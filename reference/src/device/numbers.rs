@@ -81,20 +81,28 @@ impl Refusal {
     }
 }
 
-/// The name of a return number as the case tool writes it.
+/// The names of the return numbers as the case tool writes them.
+pub const RETURN_NAMES: [(u64, &str); 9] = [
+    (0x0000, "success"),
+    (0x0002, "invalid-input"),
+    (0x0003, "unsupported"),
+    (0x000e, "invalid-handle"),
+    (0x000f, "invalid-physical-address"),
+    (0x0010, "inject-poison-limit"),
+    (0x0016, "invalid-payload-length"),
+    (0x0017, "invalid-log"),
+    (0x0100, "reply-buffer-too-small"),
+];
+
+/// The return number of a call: 0 for Success.
+pub fn number_of<T>(answer: &Result<T, Refusal>) -> u16 {
+    answer.as_ref().err().map_or(0, |refusal| refusal.number())
+}
+
+/// The name of a return number.
 pub fn return_name(number: u64) -> &'static str {
-    match number {
-        0x0000 => "success",
-        0x0002 => "invalid-input",
-        0x0003 => "unsupported",
-        0x000e => "invalid-handle",
-        0x000f => "invalid-physical-address",
-        0x0010 => "inject-poison-limit",
-        0x0016 => "invalid-payload-length",
-        0x0017 => "invalid-log",
-        0x0100 => "reply-buffer-too-small",
-        _ => "number-not-in-document-01",
-    }
+    let found = RETURN_NAMES.iter().find(|(known, _)| *known == number);
+    found.map_or("number-not-in-document-01", |(_, name)| *name)
 }
 
 /// The little-endian number in up to 8 bytes.

@@ -15,6 +15,8 @@ pub struct PoisonList {
     entries: BTreeMap<u128, Body>,
     /// The device time of the first drop: `Some` is the overflow flag.
     overflow: Option<u64>,
+    /// Lines ever dropped, for a planted fault alone.
+    dropped: u128,
 }
 
 /// An entry as seen from outside: first line, lines, type.
@@ -26,6 +28,14 @@ pub struct Entry {
 }
 
 impl PoisonList {
+    /// A list of no entry with this one's flag and time (a planted fault).
+    pub fn without_entries(self) -> PoisonList {
+        PoisonList {
+            entries: BTreeMap::new(),
+            ..self
+        }
+    }
+
     /// The entries in ascending address order (house).
     pub fn entries(&self) -> impl DoubleEndedIterator<Item = Entry> + '_ {
         self.entries.iter().map(|(start, (lines, kind))| Entry {
@@ -105,7 +115,8 @@ impl PoisonList {
 
     /// "A drop sets the overflow flag; the first sets the overflow time to the
     /// device time. Nothing clears the flag."
-    fn drop_lines(&mut self, device_time: u64, config: Config) {
+    fn drop_lines(&mut self, lines: u128, device_time: u64, config: Config) {
+        self.dropped += lines;
         if self.overflow.is_none() || config.has(Fault::PoisonTimeOverwritten) {
             self.overflow = Some(device_time);
         }
@@ -140,7 +151,7 @@ impl PoisonList {
             }
             if self.full(config) {
                 dropped += to - from;
-                self.drop_lines(device_time, config);
+                self.drop_lines(to - from, device_time, config);
             } else {
                 self.entries.insert(from, (to - from, kind));
                 stored += to - from;
@@ -173,7 +184,7 @@ impl PoisonList {
         }
         if full && before > 0 {
             if !config.has(Fault::PartAfterDroppedWithoutFlag) {
-                self.drop_lines(device_time, config);
+                self.drop_lines(after, device_time, config);
             }
         } else {
             self.entries.insert(line + 1, (after, entry.kind));
@@ -214,7 +225,12 @@ impl PoisonList {
     }
 
     /// "Damage total: the sum of entry lengths, worked out at each call."
-    pub fn damage_total(&self) -> u128 {
-        self.entries.values().map(|(lines, _)| lines).sum()
+    pub fn damage_total(&self, config: Config) -> u128 {
+        let total: u128 = self.entries.values().map(|(lines, _)| lines).sum();
+        match config.fault {
+            Some(Fault::TotalCountsDropped) => total + self.dropped,
+            Some(Fault::TotalCountsEntries) => self.held() as u128,
+            _ => total,
+        }
     }
 }

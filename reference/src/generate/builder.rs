@@ -1,17 +1,26 @@
 //! The stream under construction. It runs the model beside the stream, so that
 //! a profile can choose handles and lines by the state they will meet.
 
-use crate::bench::Bench;
-use crate::device::numbers::{opcode, RECORD};
+use crate::device::numbers::{opcode, MAILBOX, RECORD};
 use crate::device::poison::Entry;
 use crate::device::{Config, Device};
+use crate::format::Format;
+use crate::probe::record::{Record, MOST};
+use crate::probe::Probe;
 use crate::random::Random;
-use crate::stream::Record;
 
-/// A stream under construction.
+/// A stream under construction. Records are those of probe; in a bench stream
+/// the bench record of the same call is written.
 pub struct Builder {
     pub random: Random,
-    bench: Bench,
+    format: Format,
+    /// Chooses what a probe stream has more: rooms, fills and records between.
+    /// It is apart, so that a profile makes the same calls in both formats.
+    extras: Random,
+    /// A probe stream asks event status and damage total after one call of so
+    /// many.
+    asking: u64,
+    probe: Probe,
     out: Vec<u8>,
     time: u64,
     records: usize,
@@ -22,10 +31,13 @@ pub struct Builder {
 
 impl Builder {
     /// An empty stream. The generator's model has no planted fault.
-    pub fn new(seed: u64, limit: Option<usize>) -> Self {
+    pub fn new(format: Format, seed: u64, limit: Option<usize>) -> Self {
         Builder {
             random: Random::new(seed),
-            bench: Bench::new(Config::default()),
+            format,
+            extras: Random::new(!seed),
+            asking: 10,
+            probe: Probe::new(Config::default()),
             out: Vec::new(),
             time: 0,
             records: 0,
@@ -37,6 +49,19 @@ impl Builder {
     /// The stream's bytes.
     pub fn finish(self) -> Vec<u8> {
         self.out
+    }
+
+    /// The greatest payload that the format takes.
+    pub fn most_payload(&self) -> usize {
+        match self.format {
+            Format::Bench => MAILBOX,
+            Format::Probe => MOST,
+        }
+    }
+
+    /// Event status and damage total are asked after every call from now on.
+    pub fn ask_always(&mut self) {
+        self.asking = 1;
     }
 
     /// Sets the number of records of a looping profile, unless one was given.
@@ -51,19 +76,48 @@ impl Builder {
         self.records < self.target
     }
 
+    /// Whether a given limit is reached, so that nothing more is appended.
+    fn ended(&self) -> bool {
+        self.limited && !self.more()
+    }
+
     /// The model's device after the records so far.
     pub fn device(&self) -> &Device {
-        self.bench.device()
+        self.probe.device()
     }
 
     /// Appends a record and runs it. Past a given limit nothing is appended.
     pub fn push(&mut self, record: Record) {
-        if self.limited && !self.more() {
+        if self.ended() {
             return;
         }
-        record.encode(&mut self.out);
-        self.bench.step(&record);
+        self.append(&record);
         self.records += 1;
+        if self.extras.one_in(self.asking) {
+            self.ask();
+        }
+    }
+
+    /// Event status and damage total, in a probe stream.
+    fn ask(&mut self) {
+        if self.format == Format::Probe && !self.ended() {
+            self.append(&Record::Status);
+            self.append(&Record::Total);
+        }
+    }
+
+    fn append(&mut self, record: &Record) {
+        let bytes = self.bytes_of(record);
+        self.out.extend(bytes);
+        self.probe.step(record);
+    }
+
+    /// A record's bytes in the stream's format.
+    pub fn bytes_of(&self, record: &Record) -> Vec<u8> {
+        match self.format {
+            Format::Bench => record.bench().expect("a call that bench has").bytes(),
+            Format::Probe => record.bytes(),
+        }
     }
 
     /// Appends bytes that are no whole record; nothing may follow them.
@@ -108,11 +162,46 @@ impl Builder {
     }
 
     pub fn command_at(&mut self, time: u64, opcode: u16, payload: Vec<u8>) {
+        let fill = self.any_fill();
+        // First at times in a room that is too small: refused, and the device
+        // is as it was.
+        if self.format == Format::Probe && self.extras.one_in(12) && !self.ended() {
+            let room = self.extras.pick(&[0, 1, 2046, 2047]);
+            self.append(&Record::Command {
+                time,
+                opcode,
+                room,
+                fill,
+                payload: payload.clone(),
+            });
+        }
+        let any = self.extras.between(2048, 4096) as u16;
+        let room = self.extras.pick(&[2048, 2048, 2049, 2050, 4096, any]);
         self.push(Record::Command {
             time,
             opcode,
+            room,
+            fill,
             payload,
         });
+    }
+
+    /// A command with this room and fill, once.
+    pub fn command_in(&mut self, room: u16, fill: u8, opcode: u16, payload: Vec<u8>) {
+        let time = self.tick();
+        self.push(Record::Command {
+            time,
+            opcode,
+            room,
+            fill,
+            payload,
+        });
+    }
+
+    /// A fill: 0, 255 or any.
+    pub fn any_fill(&mut self) -> u8 {
+        let any = self.extras.bits() as u8;
+        self.extras.pick(&[0, 255, any, any])
     }
 
     /// An event report with random bytes, those the device sets included.
@@ -123,6 +212,13 @@ impl Builder {
 
     pub fn event_at(&mut self, time: u64, log: u8) {
         let record = self.random.bytes(RECORD);
+        self.push(Record::Event { time, log, record });
+    }
+
+    /// An event report with a record of any size.
+    pub fn event_of(&mut self, log: u8, size: usize) {
+        let time = self.tick();
+        let record = self.random.bytes(size);
         self.push(Record::Event { time, log, record });
     }
 
@@ -193,6 +289,7 @@ impl Builder {
         }
         self.command(opcode::GET_POLICY, vec![]);
         self.command(opcode::GET_TIMESTAMP, vec![]);
+        self.ask();
     }
 
     /// Makes the whole poison list visible: every entry, and lines at edges.
@@ -215,6 +312,7 @@ impl Builder {
         let few = self.random.below(3).min(lines - line);
         self.get_poison(line * 64, few);
         self.get_poison(lines * 64, 0);
+        self.ask();
     }
 
     /// Makes everything visible.

@@ -1,10 +1,10 @@
-//! Profiles about lengths, opcodes, policy, Get Log, devices and bad streams.
+//! Profiles about lengths, opcodes, policy, Get Log and devices.
 
 use super::builder::Builder;
 use super::events::one_clear;
 use crate::device::numbers::opcode;
 use crate::device::EFFECTS_IDENTIFIER;
-use crate::stream::Record;
+use crate::probe::record::Record;
 
 /// A payload that is right for the opcode in most cases.
 pub fn plausible_payload(b: &mut Builder, code: u16) -> Vec<u8> {
@@ -39,15 +39,19 @@ pub fn plausible_payload(b: &mut Builder, code: u16) -> Vec<u8> {
     }
 }
 
-/// Every opcode with every length of 0 to 80 and some great ones.
+/// Every opcode, and some that are unknown, with every length of 0 to 80 and
+/// some great ones.
 pub fn wrong_lengths(b: &mut Builder) {
     b.any_device();
     for log in 0..5 {
         b.event(log);
     }
-    let lengths = (0..=80).chain([255, 256, 257, 516, 517, 1024, 2046, 2047, 2048]);
-    for code in opcode::ALL {
-        for length in lengths.clone() {
+    let great = [255, 256, 257, 516, 517, 1024, 2046, 2047, 2048];
+    let over = [2049, 2050, 4094, 4095, 4096];
+    let most = b.most_payload();
+    let lengths = (0..=80).chain(great).chain(over);
+    for code in opcode::ALL.into_iter().chain([0x0104, 0x4303]) {
+        for length in lengths.clone().filter(|length| *length <= most) {
             let mut payload = plausible_payload(b, code);
             payload.resize(length, 0);
             b.command(code, payload);
@@ -67,9 +71,15 @@ pub fn wrong_lengths(b: &mut Builder) {
         }
     }
     b.show();
-    // A length of 2,049 ends the stream as bad.
-    b.push_bytes(b"CM\0\0\0\0\0\0\0\0\0\x03\x01\x08");
-    b.push_bytes(&[0; 2049]);
+    // A length over the limit ends the stream as bad.
+    let long = b.bytes_of(&Record::Command {
+        time: 0,
+        opcode: opcode::GET_TIMESTAMP,
+        room: 2048,
+        fill: 0,
+        payload: vec![0; most + 1],
+    });
+    b.push_bytes(&long);
 }
 
 /// Every opcode of 16 bits once, those near the commands with payloads too.
@@ -162,7 +172,7 @@ pub fn get_log(b: &mut Builder) {
 }
 
 /// Unit counts: one stream for each, since a stream makes one device.
-const UNITS: &[(u16, u16)] = &[
+pub const UNITS: &[(u16, u16)] = &[
     (1, 0),
     (0, 1),
     (1, 1),
@@ -204,135 +214,6 @@ pub fn devices(b: &mut Builder, part: usize) {
         }
     }
     b.show();
-}
-
-/// Kinds of bad streams made by [`malformed`]; the cut places come after them.
-const BAD_KINDS: usize = 32;
-/// Every place at which one of each record may be cut.
-const CUTS: usize = 6 + 14 + 22 + 139 + 23 + 10;
-pub const MALFORMED_STREAMS: usize = BAD_KINDS + CUTS;
-
-fn one_of_each(b: &mut Builder) -> [Record; 6] {
-    [
-        Record::New {
-            volatile: 1,
-            persistent: 0,
-        },
-        Record::Command {
-            time: b.random.bits(),
-            opcode: opcode::GET_TIMESTAMP,
-            payload: vec![],
-        },
-        Record::Command {
-            time: b.random.bits(),
-            opcode: opcode::SET_TIMESTAMP,
-            payload: b.random.bytes(8),
-        },
-        Record::Event {
-            time: b.random.bits(),
-            log: 0,
-            record: b.random.bytes(128),
-        },
-        Record::Media {
-            time: b.random.bits(),
-            address: 64,
-            lines: 1,
-            kind: 0,
-        },
-        Record::Line { address: 64 },
-    ]
-}
-
-/// One bad stream for each part: unknown marks, a wrong first mark, a later
-/// NW, a refused NW, a length over 2,048, and a cut at every place.
-pub fn malformed(b: &mut Builder, part: usize) {
-    let records = one_of_each(b);
-    if part >= BAD_KINDS {
-        let mut place = (part - BAD_KINDS) % CUTS;
-        for (i, record) in records.iter().enumerate() {
-            let bytes = record.bytes();
-            if place < bytes.len() {
-                let cut = &bytes[..place];
-                if i > 0 {
-                    some_records(b);
-                }
-                b.push_bytes(cut);
-                return;
-            }
-            place -= bytes.len();
-        }
-    }
-    let big = [2049u16, 4096, 32768, 65535];
-    let marks: [&[u8]; 8] = [b"XX", b"nw", b"cm", b"WN", b"MC", b"\0\0", b"N ", b"\r\n"];
-    match part {
-        0 => {}
-        1 => b.push_bytes(b"N"),
-        2 => b.push_bytes(b"X"),
-        // A first mark other than NW, the record whole.
-        3..=7 => b.push_bytes(&records[part - 2].bytes()),
-        8..=15 => {
-            if part % 2 == 0 {
-                some_records(b);
-            }
-            b.push_bytes(marks[part - 8]);
-            b.push_bytes(&[0; 40]);
-        }
-        // A later NW: at once, later, cut, refused by its numbers.
-        16 => {
-            b.new_device(1, 0);
-            b.push_bytes(b"NW\x01\0\0\0");
-        }
-        17 => {
-            some_records(b);
-            b.push_bytes(b"NW\x01\0\0\0LT\0\0\0\0\0\0\0\0");
-        }
-        18 => {
-            some_records(b);
-            b.push_bytes(b"NW");
-        }
-        19 => {
-            some_records(b);
-            b.push_bytes(b"NW\0\0\0\0");
-        }
-        // A refused NW with records after it.
-        20..=23 => {
-            let units = [(0, 0), (1024, 0), (65535, 65535), (1023, 1)];
-            let (volatile, persistent) = units[part - 20];
-            b.push_bytes(
-                &Record::New {
-                    volatile,
-                    persistent,
-                }
-                .bytes(),
-            );
-            b.push_bytes(&records[1].bytes());
-            b.push_bytes(b"XX");
-        }
-        // A CM length over 2,048, with and without the bytes.
-        24..=31 => {
-            some_records(b);
-            let length = big[(part - 24) / 2];
-            let mut bytes = records[1].bytes();
-            bytes[12..14].copy_from_slice(&length.to_le_bytes());
-            if part % 2 == 0 {
-                bytes.resize(14 + usize::from(length), 0);
-            }
-            b.push_bytes(&bytes);
-            b.push_bytes(&records[1].bytes());
-        }
-        _ => b.push_bytes(b"NW"),
-    }
-}
-
-/// NW and a few records before the bad place, so that its offset varies.
-fn some_records(b: &mut Builder) {
-    b.new_device(1, 0);
-    for _ in 0..b.random.below(4) {
-        let code = b.random.pick(&opcode::ALL);
-        let payload = plausible_payload(b, code);
-        b.command(code, payload);
-        b.event(0);
-    }
 }
 
 /// One step of the commands other than the poison commands.

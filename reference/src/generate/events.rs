@@ -57,7 +57,7 @@ pub fn overflow(b: &mut Builder) {
         let held = b.device().log(log.into()).handles();
         match b.random.below(3) {
             0 => b.clear_events(log, 1, &[]),
-            1 => b.clear_events(log, 0, &held[..1]),
+            1 => b.clear_events(log, 0, &held[..held.len().min(1)]),
             _ => b.clear_events(log, 0, &held),
         }
         b.get_events(log);
@@ -94,7 +94,7 @@ pub fn wrong_handles(b: &mut Builder) {
             b.event(log);
             if b.random.one_in(2) {
                 let held = b.device().log(log.into()).handles();
-                b.clear_events(log, 0, &held[..1]);
+                b.clear_events(log, 0, &held[..held.len().min(1)]);
             }
         }
     }

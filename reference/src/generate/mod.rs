@@ -4,8 +4,11 @@
 pub mod builder;
 pub mod commands;
 pub mod events;
+pub mod malformed;
 pub mod poison;
+pub mod probe;
 
+use crate::format::Format;
 use builder::Builder;
 
 /// How a profile makes its streams.
@@ -22,6 +25,8 @@ pub struct Profile {
     pub what: &'static str,
     /// It makes streams of some 10 MB, so that few seeds choose it.
     pub large: bool,
+    /// Its streams make no sense in the other format.
+    one_format: bool,
     make: Make,
 }
 
@@ -34,9 +39,20 @@ impl Profile {
         }
     }
 
-    /// Stream number `part` of a seed.
+    /// Stream number `part` of a seed, as a bench stream.
     pub fn stream(&self, seed: u64, part: usize, records: Option<usize>) -> Vec<u8> {
-        let mut builder = Builder::new(seed, records);
+        self.stream_of(Format::Bench, seed, part, records)
+    }
+
+    /// Stream number `part` of a seed.
+    pub fn stream_of(
+        &self,
+        format: Format,
+        seed: u64,
+        part: usize,
+        records: Option<usize>,
+    ) -> Vec<u8> {
+        let mut builder = Builder::new(format, seed, records);
         match self.make {
             Make::One(make) => make(&mut builder),
             Make::Several(_, make) => make(&mut builder, part),
@@ -50,6 +66,7 @@ const fn one(name: &'static str, make: fn(&mut Builder), what: &'static str) -> 
         name,
         what,
         large: false,
+        one_format: false,
         make: Make::One(make),
     }
 }
@@ -71,11 +88,20 @@ const fn several(
         name,
         what,
         large: false,
+        one_format: false,
         make: Make::Several(streams, make),
     }
 }
 
-/// Every profile.
+/// Of its own format only.
+const fn only(profile: Profile) -> Profile {
+    Profile {
+        one_format: true,
+        ..profile
+    }
+}
+
+/// The profiles of bench; those not for one format alone are probe's too.
 pub const PROFILES: &[Profile] = &[
     one(
         "full-logs",
@@ -138,12 +164,12 @@ pub const PROFILES: &[Profile] = &[
         commands::devices,
         "unit counts at every edge, refused ones included (22 streams)",
     ),
-    several(
+    only(several(
         "malformed",
-        commands::MALFORMED_STREAMS,
-        commands::malformed,
+        malformed::BENCH_STREAMS,
+        malformed::bench,
         "bad streams of every kind, a cut at every place (246 streams)",
-    ),
+    )),
     one(
         "commands-mixed",
         commands::commands_mixed,
@@ -202,19 +228,88 @@ pub const PROFILES: &[Profile] = &[
     one("mixed", poison::mixed, "everything together"),
 ];
 
+/// The profiles of probe alone: what bench does not carry.
+pub const PROBE_PROFILES: &[Profile] = &[
+    one(
+        "rooms",
+        probe::rooms,
+        "room at every edge with every opcode and several fills",
+    ),
+    one("fills", probe::fills, "fills that are bytes of the reply"),
+    one(
+        "refusal-order",
+        probe::refusal_order,
+        "small rooms, wrong lengths, unknown opcodes and own refusals together",
+    ),
+    one(
+        "event-sizes",
+        probe::event_sizes,
+        "event records of other sizes, logs that are not there, both",
+    ),
+    one(
+        "refused-makes",
+        probe::refused_makes,
+        "refused makes, and the one volatile unit used on",
+    ),
+    one(
+        "later-makes",
+        probe::later_makes,
+        "several devices one after the other, each with a state that may not stay",
+    ),
+    one(
+        "status",
+        probe::status,
+        "every combination of waiting logs, asked after every call",
+    ),
+    one(
+        "total",
+        probe::total,
+        "the damage total after every call, with full lists and clears",
+    ),
+    several(
+        "malformed",
+        malformed::PROBE_STREAMS,
+        malformed::probe,
+        "bad streams of every kind, marks of later requests, a cut at every place (378 streams)",
+    ),
+    one(
+        "everything",
+        probe::everything,
+        "all calls of probe mixed, makes and every size included",
+    ),
+    large(
+        "long",
+        probe::long,
+        "records of up to 4,113 bytes, some 7 MB of them",
+    ),
+];
+
 /// Seeds `compare` runs where none are given: two rounds of [`SEED_ROUND`].
 pub const DEFAULT_SEEDS: std::ops::Range<u64> = 0..2 * SEED_ROUND;
 /// Each large profile is chosen by one seed of a round.
 const SEED_ROUND: u64 = 100;
 
+/// Every profile of a format.
+pub fn profiles(format: Format) -> Vec<&'static Profile> {
+    match format {
+        Format::Bench => PROFILES.iter().collect(),
+        Format::Probe => {
+            let both = PROFILES.iter().filter(|profile| !profile.one_format);
+            both.chain(PROBE_PROFILES).collect()
+        }
+    }
+}
+
 /// The profile of this name.
-pub fn profile_named(name: &str) -> Option<&'static Profile> {
-    PROFILES.iter().find(|profile| profile.name == name)
+pub fn profile_named(format: Format, name: &str) -> Option<&'static Profile> {
+    let mut all = profiles(format).into_iter();
+    all.find(|profile| profile.name == name)
 }
 
 /// The profile that a seed chooses.
-pub fn profile_of(seed: u64) -> &'static Profile {
-    let (large, small): (Vec<_>, Vec<_>) = PROFILES.iter().partition(|profile| profile.large);
+pub fn profile_of(format: Format, seed: u64) -> &'static Profile {
+    let all = profiles(format).into_iter();
+    let (large, small): (Vec<_>, Vec<_>) = all.partition(|profile| profile.large);
     // The last seeds of a round choose the large profiles.
     let (round, place) = (seed / SEED_ROUND, seed % SEED_ROUND);
     let smalls = SEED_ROUND - large.len() as u64;

@@ -6,12 +6,12 @@ use super::commands::one_step;
 use crate::device::numbers::opcode;
 
 /// A stretch of lines to work in: at the device's start, middle or end.
-struct Region {
-    base: u64,
-    lines: u64,
+pub struct Region {
+    pub base: u64,
+    pub lines: u64,
 }
 
-fn region(b: &mut Builder, lines: u64) -> Region {
+pub fn region(b: &mut Builder, lines: u64) -> Region {
     let all = b.device_lines();
     let base = match b.random.below(3) {
         0 => 0,
@@ -39,7 +39,7 @@ fn some_report(b: &mut Builder, region: &Region) {
 }
 
 /// Fills the list to `held` entries of 1 to `longest` lines with gaps.
-fn fill(b: &mut Builder, region: &Region, held: usize, longest: u64) {
+pub fn fill(b: &mut Builder, region: &Region, held: usize, longest: u64) {
     let step = region.lines / held as u64;
     for i in 0..held as u64 {
         let lines = b.random.between(1, longest.min(step - 1));
@@ -54,7 +54,7 @@ fn fill(b: &mut Builder, region: &Region, held: usize, longest: u64) {
 }
 
 /// One report, injection or clear at an edge.
-fn poison_step(b: &mut Builder, region: &Region) {
+pub fn poison_step(b: &mut Builder, region: &Region) {
     let line = some_line(b, region);
     match b.random.below(11) {
         0..=2 => some_report(b, region),

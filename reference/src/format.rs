@@ -1,0 +1,53 @@
+//! The two program formats: document 01's `bench` and document 10's `probe`.
+
+use crate::device::fault::{FaultLine, FAULTS, PROBE_FAULTS};
+use crate::device::Config;
+use crate::{bench, probe};
+use std::io::{self, BufRead, Write};
+
+/// A program format.
+#[derive(Clone, Copy, Debug, PartialEq, Eq)]
+pub enum Format {
+    Bench,
+    Probe,
+}
+
+impl Format {
+    /// The format of this name.
+    pub fn named(name: &str) -> Option<Format> {
+        match name {
+            "bench" => Some(Format::Bench),
+            "probe" => Some(Format::Probe),
+            _ => None,
+        }
+    }
+
+    /// Runs a stream of this format and writes the lines.
+    pub fn run(
+        self,
+        input: impl BufRead,
+        output: &mut impl Write,
+        config: Config,
+    ) -> io::Result<()> {
+        match self {
+            Format::Bench => bench::run(input, output, config),
+            Format::Probe => probe::run(input, output, config),
+        }
+    }
+
+    /// The lines a stream of this format gives, as one text.
+    pub fn lines_of(self, stream: &[u8], config: Config) -> Vec<u8> {
+        match self {
+            Format::Bench => bench::lines_of(stream, config),
+            Format::Probe => probe::lines_of(stream, config),
+        }
+    }
+
+    /// The planted faults that this format can see.
+    pub fn faults(self) -> Vec<&'static FaultLine> {
+        match self {
+            Format::Bench => FAULTS.iter().collect(),
+            Format::Probe => FAULTS.iter().chain(PROBE_FAULTS).collect(),
+        }
+    }
+}

@@ -1,0 +1,260 @@
+//! Probe records (document 10 "Records of the base"): their bytes, and a reader
+//! that holds one record at a time and says where a stream is bad.
+
+use crate::device::numbers::{number, MAILBOX, RECORD};
+use crate::source::{self, Source};
+use crate::stream;
+use std::io::{self, BufRead};
+
+/// "Limits: room, payload length and record length at most 4,096 each."
+pub const MOST: usize = 4096;
+
+/// One record of a probe stream.
+#[derive(Clone, Debug, PartialEq, Eq)]
+pub enum Record {
+    New {
+        volatile: u16,
+        persistent: u16,
+    },
+    Command {
+        time: u64,
+        opcode: u16,
+        room: u16,
+        fill: u8,
+        payload: Vec<u8>,
+    },
+    Event {
+        time: u64,
+        log: u8,
+        record: Vec<u8>,
+    },
+    Media {
+        time: u64,
+        address: u64,
+        lines: u32,
+        kind: u8,
+    },
+    Line {
+        address: u64,
+    },
+    Status,
+    Total,
+}
+
+impl Record {
+    /// The two-byte mark.
+    pub fn mark(&self) -> &'static str {
+        match self {
+            Record::New { .. } => "NW",
+            Record::Command { .. } => "CM",
+            Record::Event { .. } => "EV",
+            Record::Media { .. } => "MD",
+            Record::Line { .. } => "LT",
+            Record::Status => "ES",
+            Record::Total => "DT",
+        }
+    }
+
+    /// The record's bytes, mark first, appended to `out`.
+    pub fn encode(&self, out: &mut Vec<u8>) {
+        if let Some(fixed) = self.fixed() {
+            return fixed.encode(out);
+        }
+        out.extend(self.mark().as_bytes());
+        match self {
+            Record::Command {
+                time,
+                opcode,
+                room,
+                fill,
+                payload,
+            } => {
+                out.extend(time.to_le_bytes());
+                out.extend(opcode.to_le_bytes());
+                out.extend(room.to_le_bytes());
+                out.push(*fill);
+                sized(payload, out);
+            }
+            Record::Event { time, log, record } => {
+                out.extend(time.to_le_bytes());
+                out.push(*log);
+                sized(record, out);
+            }
+            _ => {}
+        }
+    }
+
+    /// The record's bytes, mark first.
+    pub fn bytes(&self) -> Vec<u8> {
+        let mut out = Vec::new();
+        self.encode(&mut out);
+        out
+    }
+
+    /// The bench record of the same bytes: NW, MD and LT are alike there.
+    fn fixed(&self) -> Option<stream::Record> {
+        match self {
+            Record::New { .. } | Record::Media { .. } | Record::Line { .. } => self.bench(),
+            _ => None,
+        }
+    }
+
+    /// The bench record of the same call, without room and fill; a payload may
+    /// be over bench's limit. None where bench has no such record: a call
+    /// without a mark there, or an event record of another size.
+    pub fn bench(&self) -> Option<stream::Record> {
+        match self.clone() {
+            Record::New {
+                volatile,
+                persistent,
+            } => Some(stream::Record::New {
+                volatile,
+                persistent,
+            }),
+            Record::Command {
+                time,
+                opcode,
+                payload,
+                ..
+            } => Some(stream::Record::Command {
+                time,
+                opcode,
+                payload,
+            }),
+            Record::Event { time, log, record } => {
+                (record.len() == RECORD).then_some(stream::Record::Event { time, log, record })
+            }
+            Record::Media {
+                time,
+                address,
+                lines,
+                kind,
+            } => Some(stream::Record::Media {
+                time,
+                address,
+                lines,
+                kind,
+            }),
+            Record::Line { address } => Some(stream::Record::Line { address }),
+            Record::Status | Record::Total => None,
+        }
+    }
+}
+
+/// A length of two bytes and as many bytes.
+fn sized(bytes: &[u8], out: &mut Vec<u8>) {
+    out.extend((bytes.len() as u16).to_le_bytes());
+    out.extend(bytes);
+}
+
+/// What the reader found next.
+pub type Next = source::Next<Record>;
+
+/// Reads records one by one.
+pub struct Reader<R> {
+    source: Source<R>,
+}
+
+impl<R: BufRead> Reader<R> {
+    pub fn new(input: R) -> Self {
+        Reader {
+            source: Source::new(input),
+        }
+    }
+
+    /// The next record. After `Bad` or `End` the caller stops.
+    pub fn next_record(&mut self) -> io::Result<Next> {
+        self.source.record(|source, mark, at| {
+            // "The first record must be a make; otherwise `BAD 0`."
+            if at == 0 && mark != *b"NW" {
+                return Ok(None);
+            }
+            match &mark {
+                b"CM" => command(source),
+                b"EV" => event(source),
+                b"ES" => Ok(Some(Record::Status)),
+                b"DT" => Ok(Some(Record::Total)),
+                _ => Ok(stream::fixed(source, mark)?.map(Record::from)),
+            }
+        })
+    }
+}
+
+/// The probe record of a bench record: a whole mailbox is lent, of zeros.
+impl From<stream::Record> for Record {
+    fn from(record: stream::Record) -> Record {
+        match record {
+            stream::Record::New {
+                volatile,
+                persistent,
+            } => Record::New {
+                volatile,
+                persistent,
+            },
+            stream::Record::Command {
+                time,
+                opcode,
+                payload,
+            } => Record::Command {
+                time,
+                opcode,
+                room: MAILBOX as u16,
+                fill: 0,
+                payload,
+            },
+            stream::Record::Event { time, log, record } => Record::Event { time, log, record },
+            stream::Record::Media {
+                time,
+                address,
+                lines,
+                kind,
+            } => Record::Media {
+                time,
+                address,
+                lines,
+                kind,
+            },
+            stream::Record::Line { address } => Record::Line { address },
+        }
+    }
+}
+
+/// A CM record after its mark, or None if cut or with a size over its limit.
+fn command<R: BufRead>(source: &mut Source<R>) -> io::Result<Option<Record>> {
+    let Some(head) = source.fields::<15>()? else {
+        return Ok(None);
+    };
+    let room = number(&head[10..12]) as u16;
+    if usize::from(room) > MOST {
+        return Ok(None);
+    }
+    let payload = block_of(source, &head[13..])?;
+    Ok(payload.map(|payload| Record::Command {
+        time: number(&head[..8]),
+        opcode: number(&head[8..10]) as u16,
+        room,
+        fill: head[12],
+        payload,
+    }))
+}
+
+/// An EV record after its mark, or None if cut or with a size over its limit.
+fn event<R: BufRead>(source: &mut Source<R>) -> io::Result<Option<Record>> {
+    let Some(head) = source.fields::<11>()? else {
+        return Ok(None);
+    };
+    let record = block_of(source, &head[9..])?;
+    Ok(record.map(|record| Record::Event {
+        time: number(&head[..8]),
+        log: head[8],
+        record,
+    }))
+}
+
+/// As many bytes as the number `length` says, or None if cut or over the limit.
+fn block_of<R: BufRead>(source: &mut Source<R>, length: &[u8]) -> io::Result<Option<Vec<u8>>> {
+    match number(length) as usize {
+        length if length <= MOST => source.block(length),
+        _ => Ok(None),
+    }
+}

@@ -1,0 +1,147 @@
+//! Document 10: records in, a line for each out, every answer whole.
+
+use super::record::{Reader, Record};
+use crate::device::numbers::number_of;
+use crate::device::{Config, Device, Fault, LineAnswer};
+use crate::line::Line;
+use crate::source;
+use std::io::{self, BufRead, Write};
+
+/// Runs a stream and writes the lines. One record is in memory at a time.
+pub fn run(input: impl BufRead, output: &mut impl Write, config: Config) -> io::Result<()> {
+    let mut reader = Reader::new(input);
+    let mut probe = Probe::new(config);
+    source::each(
+        || reader.next_record(),
+        output,
+        |record, output| {
+            probe.step(&record);
+            output.write_all(probe.line.as_bytes())?;
+            Ok(true)
+        },
+    )
+}
+
+/// The lines a stream gives, as one text.
+pub fn lines_of(stream: &[u8], config: Config) -> Vec<u8> {
+    let mut output = Vec::new();
+    run(stream, &mut output, config).expect("reading from memory does not fail");
+    output
+}
+
+/// The device under the probe and the line of the last record.
+pub struct Probe {
+    config: Config,
+    device: Device,
+    /// The line of the last step, with its line end.
+    pub line: Line,
+}
+
+impl Probe {
+    /// A probe that waits for its first make.
+    pub fn new(config: Config) -> Self {
+        Probe {
+            config,
+            device: Device::make(1, 0, config).1,
+            line: Line::default(),
+        }
+    }
+
+    /// The device as it is.
+    pub fn device(&self) -> &Device {
+        &self.device
+    }
+
+    /// Runs one record and sets `line`.
+    pub fn step(&mut self, record: &Record) {
+        self.line.begin(record.mark());
+        match record {
+            Record::New {
+                volatile,
+                persistent,
+            } => self.make(*volatile, *persistent),
+            Record::Command {
+                time,
+                opcode,
+                room,
+                fill,
+                payload,
+            } => {
+                let mut buffer = vec![*fill; usize::from(*room)];
+                let answer = self.device.command(*opcode, payload, *time, &mut buffer);
+                self.answer(answer, &buffer, *fill);
+            }
+            Record::Event { time, log, record } => self.event(*time, *log, record),
+            Record::Media {
+                time,
+                address,
+                lines,
+                kind,
+            } => self.media(*time, *address, *lines, *kind),
+            Record::Line { address } => self.line_test(*address),
+            Record::Status => {
+                let (bits, waiting, highest) = self.device.event_status();
+                self.line.numbers([bits, waiting, highest].map(u128::from));
+            }
+            Record::Total => self.line.number(self.device.damage_total()),
+        }
+        self.line.end();
+    }
+
+    /// "A later make puts a new device in the place of the old one. A refused
+    /// make prints its number, and the device that came beside it is used from
+    /// then on."
+    fn make(&mut self, volatile: u16, persistent: u16) {
+        let (answer, device) = self.device.clone().make_again(volatile, persistent);
+        self.device = device;
+        self.line.number(number_of(&answer));
+    }
+
+    /// "the length answered, the first `length` bytes of the buffer, and 1 if
+    /// every other byte of the buffer is still `fill`, else 0"
+    fn answer(&mut self, (number, length): (u16, usize), buffer: &[u8], fill: u8) {
+        self.line.numbers([number.into(), length as u128]);
+        let (reply, rest) = buffer.split_at(length);
+        // "bytes lower-case hex, `-` if there are none"
+        if reply.is_empty() {
+            self.line.word("-");
+        } else {
+            self.line.hex(reply);
+        }
+        let kept = rest.iter().all(|byte| *byte == fill);
+        self.line.number(kept);
+    }
+
+    /// "Every answer is printed whole, also of a refused call: not stored, 0
+    /// lines, Unknown with type 0."
+    fn event(&mut self, time: u64, log: u8, record: &[u8]) {
+        let answer = self.device.event_report(log, record, time);
+        let refused = self.config.has(Fault::RefusedEventIsStored);
+        let stored = *answer.as_ref().unwrap_or(&refused);
+        self.line
+            .numbers([number_of(&answer).into(), stored.into()]);
+    }
+
+    fn media(&mut self, time: u64, address: u64, lines: u32, kind: u8) {
+        let lines = u64::from(lines);
+        let answer = self.device.media_report(address, lines, kind, time);
+        let refused = match self.config.has(Fault::RefusedMediaIsDropped) {
+            true => (0, lines.into()),
+            false => (0, 0),
+        };
+        let (stored, dropped) = *answer.as_ref().unwrap_or(&refused);
+        let number = number_of(&answer).into();
+        self.line.numbers([number, stored, dropped]);
+    }
+
+    fn line_test(&mut self, address: u64) {
+        let answer = self.device.line_test(address);
+        let refused = match self.config.has(Fault::RefusedLineIsClean) {
+            true => LineAnswer::Clean,
+            false => LineAnswer::Unknown,
+        };
+        let (said, kind) = answer.as_ref().unwrap_or(&refused).numbers();
+        let number = number_of(&answer).into();
+        self.line.numbers([number, said.into(), kind.into()]);
+    }
+}
