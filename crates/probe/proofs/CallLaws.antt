@@ -1,0 +1,150 @@
+-- The mailbox's answers said of a record's bytes, each answer with its line, and which of them serves a record of each mark. Assumes nothing.
+use mathlib.Core.Path.{_≡_, refl, sym, ap, subst, _∙_}
+use mathlib.Core.Bool.{Bool, cond}
+use mathlib.Core.List.{List, [], _∷_}
+use Prim.Native.Nat.{ℕ, _-_}
+use lib.ListN.{length, drop, getD, length-replicate}
+use borrow.Author.Tests.{ne-eqb}
+use Rattle.wire.specs.Wire.{field}
+use Rattle.events.specs.declared.status.Status.{Status}
+use Rattle.mailbox.specs.declared.device.Device.{Device}
+use Rattle.mailbox.specs.declared.device.Made.{Made}
+use Rattle.mailbox.specs.declared.device.Answer.{Answer}
+use Rattle.mailbox.specs.declared.device_calls.EventAnswer.{EventAnswer}
+use Rattle.mailbox.specs.declared.device_calls.MediaAnswer.{MediaAnswer}
+use Rattle.mailbox.specs.declared.device_calls.LineAnswer.{LineAnswer}
+use Rattle.mailbox.specs.State.{DeviceState, ValidDevice, state-of}
+use Rattle.mailbox.specs.Outcome.{Outcome}
+use Rattle.mailbox.specs.Mailbox.{outcome}
+use Rattle.mailbox.specs.DeviceCalls.{EventOutcome, event-report, event-status, damage-total}
+use Rattle.mailbox.specs.Contracts.{Answered, Makes, EventDone, MediaDone, LineDone, StatusGiven}
+use Rattle.poison.specs.LineTest.{answer-number, answer-type}
+use Rattle.protocol.specs.declared.calls.Served.{Served}
+use Rattle.protocol.specs.Text.{numbers-line}
+use Rattle.protocol.specs.Records.{mark-of, NW, CM, EV, MD, LT, ES, DT}
+use Rattle.protocol.specs.Calls.{new-call, media-call, line-call}
+use Rattle.protocol.specs.Contracts.{PutsLine, Serves}
+use Rattle.protocol.proofs.Laws.{puts-line-as, serves-as}
+use Rattle.probe.specs.Lines.{buffer-line}
+use Rattle.probe.specs.Calls.{command-call, filled, event-call, serve-new, serve-command, serve-event, serve-media, serve-line, serve-status, serve-total, serve-record}
+
+-- the calls at the record's fields
+pub command-as : (bytes payload : List ℕ) (op time room : ℕ) {d : Device} {r : Answer} {before after : List ℕ}
+    → Answered (outcome (state-of d) op payload time room) d r before after → op ≡ field bytes 10 2 → payload ≡ drop 17 bytes → time ≡ field bytes 2 8
+    → room ≡ field bytes 12 2 → before ≡ filled bytes → Answered (command-call (state-of d) bytes) d r (filled bytes) after
+command-as bytes payload op time room {d} {r} {before} {after} h eo ep et er eb =
+    subst (λ (o : Outcome). Answered o d r (filled bytes) after) (λ i. outcome (state-of d) (eo i) (ep i) (et i) (er i))
+    (subst (λ (b : List ℕ). Answered (outcome (state-of d) op payload time room) d r b after) eb h)
+
+pub event-as : (bytes record' : List ℕ) (time log : ℕ) {d : Device} {r : EventAnswer} → EventDone (event-report (state-of d) time log record') d r
+    → time ≡ field bytes 2 8 → log ≡ getD bytes 10 0 → record' ≡ drop 13 bytes → EventDone (event-call (state-of d) bytes) d r
+event-as bytes record' time log {d} {r} h et el er = subst (λ (o : EventOutcome). EventDone o d r) (λ i. event-report (state-of d) (et i) (el i) (er i)) h
+
+-- a buffer of the record's room is as long as the one that was filled
+pub filled-long : (bytes buffer : List ℕ) → length buffer ≡ field bytes 12 2 → length buffer ≡ length (filled bytes)
+filled-long bytes buffer e = e ∙ sym (length-replicate (field bytes 12 2) (getD bytes 14 0))
+
+-- each record served
+pub new-served : (bytes : List ℕ) {m : Made} {e used : ℕ} {before after : List ℕ} → Makes (new-call bytes) m → PutsLine used (numbers-line NW (m .code ∷ [])) before after e
+    → Serves (serve-new bytes) used (record { used = e; device = m .device }) before after
+unfolding serve-new
+new-served bytes made put = record { line = puts-line-as put (ap (λ (c : ℕ). numbers-line NW (c ∷ [])) (made .code)); next = made .next; valid = made .valid }
+
+pub command-served : (bytes reply : List ℕ) {d : Device} {a : Answer} {before after : List ℕ} {used e : ℕ} → Answered (command-call (state-of d) bytes) d a (filled bytes) reply
+    → PutsLine used (buffer-line CM (a .code) (a .length) (getD bytes 14 0) reply) before after e
+    → Serves (serve-command (state-of d) bytes) used (record { used = e; device = a .device }) before after
+unfolding serve-command
+command-served bytes reply told put =
+    record {
+      line = puts-line-as put (λ i. buffer-line CM (told .code i) (told .size i) (getD bytes 14 0) (told .bytes i));
+      next = told .next;
+      valid = told .valid;
+    }
+
+pub event-served : (bytes : List ℕ) {d : Device} {a : EventAnswer} {before after : List ℕ} {used e stored : ℕ} → EventDone (event-call (state-of d) bytes) d a
+    → stored ≡ cond (a .stored) 1 0 → PutsLine used (numbers-line EV (a .code ∷ stored ∷ [])) before after e
+    → Serves (serve-event (state-of d) bytes) used (record { used = e; device = a .device }) before after
+unfolding serve-event
+event-served bytes told bit put =
+    record {
+      line = puts-line-as put (λ i. numbers-line EV (told .code i ∷ (bit ∙ ap (λ (b : Bool). cond b 1 0) (told .stored)) i ∷ []));
+      next = told .next;
+      valid = told .valid;
+    }
+
+pub media-served : (bytes : List ℕ) {d : Device} {a : MediaAnswer} {before after : List ℕ} {used e : ℕ} → MediaDone (media-call (state-of d) bytes) d a
+    → PutsLine used (numbers-line MD (a .code ∷ a .stored ∷ a .dropped ∷ [])) before after e
+    → Serves (serve-media (state-of d) bytes) used (record { used = e; device = a .device }) before after
+unfolding serve-media
+media-served bytes told put =
+    record { line = puts-line-as put (λ i. numbers-line MD (told .code i ∷ told .stored i ∷ told .dropped i ∷ [])); next = told .next; valid = told .valid }
+
+pub line-served : (bytes : List ℕ) (d : Device) {a : LineAnswer} {before after : List ℕ} {used e x y : ℕ} → LineDone (line-call (state-of d) bytes) a
+    → x ≡ answer-number (a .answer) → y ≡ answer-type (a .answer) → PutsLine used (numbers-line LT (a .code ∷ x ∷ y ∷ [])) before after e → ValidDevice d
+    → Serves (serve-line (state-of d) bytes) used (record { used = e; device = d }) before after
+unfolding serve-line
+line-served bytes d told ex ey put valid =
+    record {
+      line = puts-line-as put (λ i. numbers-line LT (told .code i ∷ (ex ∙ told .number) i ∷ (ey ∙ told .kind) i ∷ []));
+      next = refl;
+      valid = valid;
+    }
+
+pub status-served : (d : Device) {a : Status} {before after : List ℕ} {used e : ℕ} → StatusGiven (event-status (state-of d)) a
+    → PutsLine used (numbers-line ES (a .bits ∷ a .waiting ∷ a .highest ∷ [])) before after e → ValidDevice d
+    → Serves (serve-status (state-of d)) used (record { used = e; device = d }) before after
+unfolding serve-status
+status-served d told put valid =
+    record { line = puts-line-as put (λ i. numbers-line ES (told .bits i ∷ told .waiting i ∷ told .highest i ∷ [])); next = refl; valid = valid }
+
+pub total-served : (d : Device) {n : ℕ} {before after : List ℕ} {used e : ℕ} → n ≡ damage-total (state-of d) → PutsLine used (numbers-line DT (n ∷ [])) before after e
+    → ValidDevice d → Serves (serve-total (state-of d)) used (record { used = e; device = d }) before after
+unfolding serve-total
+total-served d told put valid = record { line = puts-line-as put (ap (λ (k : ℕ). numbers-line DT (k ∷ [])) told); next = refl; valid = valid }
+
+-- which of them serves a record, by its mark
+module _ (d : DeviceState) (r : List ℕ) {used : ℕ} {s : Served} {before after : List ℕ} where
+  pub by-new : mark-of r ≡ mark-of NW → Serves (serve-new r) used s before after → Serves (serve-record d r) used s before after
+  unfolding serve-record
+  by-new e h = serves-as h (rw e)
+
+  pub by-command : mark-of r ≡ mark-of CM → Serves (serve-command d r) used s before after → Serves (serve-record d r) used s before after
+  unfolding serve-record
+  by-command e h = serves-as h (rw e)
+
+  pub by-event : mark-of r ≡ mark-of EV → Serves (serve-event d r) used s before after → Serves (serve-record d r) used s before after
+  unfolding serve-record
+  by-event e h = serves-as h (rw e)
+
+  pub by-media : mark-of r ≡ mark-of MD → Serves (serve-media d r) used s before after → Serves (serve-record d r) used s before after
+  unfolding serve-record
+  by-media e h = serves-as h (rw e)
+
+  pub by-line : mark-of r ≡ mark-of LT → Serves (serve-line d r) used s before after → Serves (serve-record d r) used s before after
+  unfolding serve-record
+  by-line e h = serves-as h (rw e)
+
+  pub by-status : mark-of r ≡ mark-of ES → Serves (serve-status d) used s before after → Serves (serve-record d r) used s before after
+  unfolding serve-record
+  by-status e h = serves-as h (rw e)
+
+  pub by-total : mark-of r ≡ mark-of DT → Serves (serve-total d) used s before after → Serves (serve-record d r) used s before after
+  unfolding serve-record
+  by-total e h = serves-as h (rw e)
+
+-- a mark that no record has: nothing is printed
+pub by-none : (r : List ℕ) {d : Device} {used : ℕ} {out : List ℕ} → (mark-of r ≡ mark-of NW → ⊥) → (mark-of r ≡ mark-of CM → ⊥) → (mark-of r ≡ mark-of EV → ⊥)
+    → (mark-of r ≡ mark-of MD → ⊥) → (mark-of r ≡ mark-of LT → ⊥) → (mark-of r ≡ mark-of ES → ⊥) → (mark-of r ≡ mark-of DT → ⊥) → ValidDevice d
+    → PutsLine used [] out out used → Serves (serve-record (state-of d) r) used (record { used = used; device = d }) out out
+unfolding serve-record
+by-none r {d} {used} {out} h₁ h₂ h₃ h₄ h₅ h₆ h₇ valid put =
+    serves-as {o = record { line = []; next = state-of d }} (record { line = put; next = refl; valid = valid })
+    (rw (
+      ne-eqb (mark-of r) (mark-of NW) h₁,
+      ne-eqb (mark-of r) (mark-of CM) h₂,
+      ne-eqb (mark-of r) (mark-of EV) h₃,
+      ne-eqb (mark-of r) (mark-of MD) h₄,
+      ne-eqb (mark-of r) (mark-of LT) h₅,
+      ne-eqb (mark-of r) (mark-of ES) h₆,
+      ne-eqb (mark-of r) (mark-of DT) h₇,
+    ))

@@ -1,0 +1,65 @@
+-- `probe::serve::call_command` meets its contract: the fields read are those of the record's bytes, the buffer is filled, and the payload is all that comes after them.
+-- Assumes nothing.
+use mathlib.Core.Path.{ap, _∙_}
+use Prim.Native.Nat.{ℕ}
+use native.Mathlib.Omega.{arith}
+use borrow.Author.Needs.{needs}
+use lib.ListN.{getD, replicate}
+use Rattle.protocol.proofs.Laws.{rest-of}
+use Rattle.probe.proofs.CallLaws.{command-as}
+use Rattle.probe.proofs.serve.call_command.Statement.{statement}
+use Rattle.probe.proofs.serve.call_command.Tie as tie
+
+get-requires : tie.Need-get-requires
+get-requires c κs = search needs
+
+get-requires-2 : tie.Need-get-requires-2
+get-requires-2 c κs = search needs
+
+cast-opcode : tie.Need-cast-opcode
+cast-opcode c = search needs
+
+shared-slice-read-fill : tie.Need-shared-slice-read-fill
+shared-slice-read-fill c = search needs
+
+fill-requires : tie.Need-fill-requires
+fill-requires c κs = search needs
+
+sub-command : tie.Need-sub-command
+sub-command c = search needs
+
+part-command-start : tie.Need-part-command-start
+part-command-start c = search needs
+
+part-command-end : tie.Need-part-command-end
+part-command-end c = search needs
+
+command-requires : tie.Need-command-requires
+command-requires c κs = search needs
+
+same-length : tie.Need-same-length
+same-length c = search needs
+
+returns : tie.Need-returns
+returns c =
+    let s = c .before .before .before .before .before .before .before .before .before .before .before .before .before .before in
+    let bytes = s .args .bytes .now in
+    let filled' = c .before .before .before .before .before .before .before .fill in
+    command-as bytes _ _ _ _ (c .before .before .command .ensures) (c .before .before .before .before .before .before .before .before .before .before .get2 .ensures .value) (rest-of 17 bytes) (c .before .before .before .before .before .before .before .before .before .before .before .get .ensures .value)
+    (omega (arith, filled' .kept .0, s .pre .2)) (filled' .ensures ∙ ap (λ (k : ℕ). replicate k (getD bytes 14 0)) (s .pre .2))
+
+pub call-command-spec : {M : Type 1} → statement M
+call-command-spec =
+    tie.close
+    (tie.spec
+    get-requires
+    get-requires-2
+    cast-opcode
+    shared-slice-read-fill
+    fill-requires
+    sub-command
+    part-command-start
+    part-command-end
+    command-requires
+    same-length
+    returns)

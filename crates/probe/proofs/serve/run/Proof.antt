@@ -1,0 +1,180 @@
+-- `probe::serve::run` meets its contract. The invariant: the three buffers keep their lengths, the device is valid, the stream's places lie in the buffers, and
+-- where the program is now is a run away from where it began. The measure is what is left of the offsets. Assumes nothing.
+use mathlib.Core.Path.{_≡_, refl}
+use mathlib.Core.List.{List}
+use Prim.Native.Nat.{ℕ, _+_, _-_, _≤_}
+use native.Mathlib.Omega.{arith}
+use borrow.Author.Needs.{needs}
+use lib.Dec.{eqb}
+use lib.ListN.{length, take, drop}
+use Rattle.mailbox.specs.State.{ValidDevice, state-of}
+use Rattle.protocol.specs.Stream.{Fits}
+use Rattle.protocol.specs.Records.{OneRecord}
+use Rattle.protocol.specs.Runs.{reading, machine-of, Steps}
+use Rattle.protocol.specs.Runs.Steps.{stay}
+use Rattle.protocol.proofs.Laws.{local-front, sized, ready, one-record, unread-fits, turn-served, turn-ends, run-far}
+use Rattle.protocol.specs.declared.formats.Format.the-variants.{Probe}
+use Rattle.protocol.specs.Formats.{fixed, size}
+use Rattle.probe.specs.Calls.{probe}
+use Rattle.probe.proofs.RunLaws.{run-from}
+use Rattle.probe.proofs.serve.run.Statement.{statement}
+use Rattle.probe.proofs.serve.run.Tie as tie
+
+abbrev Inv-loop : tie.InvT-loop
+Inv-loop input₀ out₀ reply₀ device₀ s₀ input out reply device s =
+    (length input ≡ 65536) × (length out ≡ 65536) × (length reply ≡ 4096) × ValidDevice device × Fits s
+    × Steps probe (machine-of (state-of device₀) s₀ input₀ out₀) (machine-of (state-of device) s input out)
+
+abbrev μ-loop : tie.MeasureT-loop
+μ-loop input₀ out₀ reply₀ device₀ s₀ input out reply device s = 9223372036854775808 - s .offset
+
+-- the input buffer keeps its length, and the line has room
+long : (k : tie.After-next Inv-loop μ-loop) → length (k .next .last .1 .1 .0) ≡ 65536
+long k = omega (arith, k .next .kept, k .before .before .before .before .before .loop .inv .0)
+
+roomy : (k : tie.After-make-room Inv-loop μ-loop) → k .make-room .result + 8400 ≤ length (k .before .before .before .before .before .before .before .before .before .before .loop .out)
+roomy k = omega (arith, k .make-room .ensures .1, k .before .before .before .before .before .before .before .before .before .before .loop .inv .1)
+
+-- the places that a turn has passed where a record was found: the loop, what was found, the room made for a line
+abbrev at-loop : tie.After-past Inv-loop μ-loop → tie.At-loop Inv-loop μ-loop
+at-loop k = k .before .before .before .before .before .before .before .before .before .before .before .before .before
+
+abbrev looked : tie.After-past Inv-loop μ-loop → tie.After-next Inv-loop μ-loop
+looked k = k .before .before .before .before .before .before .before .before
+
+abbrev roomed : tie.After-past Inv-loop μ-loop → tie.After-make-room Inv-loop μ-loop
+roomed k = k .before .before .before
+
+-- the record found: its bytes are one whole record, which lies in the buffer
+abbrev bytes : tie.After-past Inv-loop μ-loop → List ℕ
+bytes k = take (k .past .result .at - looked k .next .result .stream .at) (drop (looked k .next .result .stream .at) (looked k .next .last .1 .1 .0))
+
+this : (k : tie.After-past Inv-loop μ-loop) → OneRecord (reading probe (at-loop k .loop .s .offset)) (bytes k)
+this k =
+    let first = eqb (at-loop k .loop .s .offset) 0 in
+    one-record (reading probe (at-loop k .loop .s .offset)) (local-front (fixed Probe first) (size Probe) (sized Probe first)) (looked k .next .ensures) (k .before .if2 .left)
+    (long (looked k)) (k .past .ensures)
+
+make-requires : tie.Need-make-requires Inv-loop μ-loop
+make-requires c κs = search needs
+
+new-requires : tie.Need-new-requires Inv-loop μ-loop
+new-requires c κs = search needs
+
+loop-holds : tie.Need-loop-holds Inv-loop μ-loop
+loop-holds c =
+    let given = c .before .before .before .before .before .before .pre in
+    (given .0, given .1, given .2, c .before .before .make .ensures .valid, unread-fits (c .new .ensures), stay)
+
+next-requires : tie.Need-next-requires Inv-loop μ-loop
+next-requires c κs =
+    let l = c .before .before .before .before .loop in
+    (l .inv .4, l .inv .0, l .inv .1)
+
+make-room-requires : tie.Need-make-room-requires Inv-loop μ-loop
+make-room-requires c κs = (c .before .before .before .before .next .ensures .same .fits .output, omega arith, c .before .before .before .before .before .before .before .before .before .loop .inv .1)
+
+sub-stop : tie.Need-sub-stop Inv-loop μ-loop
+sub-stop c = c .before .before .before .before .before .before .before .before .before .next .ensures .same .fits .order
+
+stop-requires : tie.Need-stop-requires Inv-loop μ-loop
+stop-requires c κs = omega (arith, roomy (c .before .before .before .before))
+
+same-length : tie.Need-same-length Inv-loop μ-loop
+same-length c = omega (arith, long (c .before .before .before .before .before .before .before .before .before .before .before .before), c .before .before .before .before .before .before .before .before .before .before .before .before .before .before .before .before .before .before .before .before .before .before .before .before .pre .0)
+
+same-length-2 : tie.Need-same-length-2 Inv-loop μ-loop
+same-length-2 c = omega (arith, c .before .before .stop .kept, c .before .before .before .before .before .before .before .before .before .before .before .before .before .before .before .before .before .loop .inv .1, c .before .before .before .before .before .before .before .before .before .before .before .before .before .before .before .before .before .before .before .before .before .before .before .before .pre .1)
+
+same-length-3 : tie.Need-same-length-3 Inv-loop μ-loop
+same-length-3 c = omega (arith, c .before .before .before .before .before .before .before .before .before .before .before .before .before .before .before .before .before .loop .inv .2, c .before .before .before .before .before .before .before .before .before .before .before .before .before .before .before .before .before .before .before .before .before .before .before .before .pre .2)
+
+returns : tie.Need-returns Inv-loop μ-loop
+returns c =
+    let l = c .before .before .before .before .before .before .before .before .before .before .before .before .before .before .before .before .before .loop in
+    let found = c .before .before .before .before .before .before .before .before .before .before .before .before in
+    let room = c .before .before .before .before .before .before .before in
+    let ended = turn-ends probe (state-of (l .device)) (l .s) (found .next .result) (l .out) 8400 (room .make-room .result) (l .inv .5) (found .next .ensures) (room .make-room .ensures .0) (long found)
+    (c .before .before .before .before .before .if2 .taken) (c .before .before .before .before .before .before .before .before .before .before .before .before .before .before .before .if1 .taken) refl (c .before .before .stop .ensures) (omega (arith, roomy room)) (l .inv .1) in
+    (ended .0, run-from _ _ (c .before .before .before .before .before .before .before .before .before .before .before .before .before .before .before .before .before .before .before .before .make .ensures) (c .before .before .before .before .before .before .before .before .before .before .before .before .before .before .before .before .before .before .new .ensures) (ended .1))
+
+past-requires : tie.Need-past-requires Inv-loop μ-loop
+past-requires c κs =
+    let found = c .before .before .before .before .before .before .before .next .ensures in
+    (omega (arith, found .inside, found .same .fits .order, found .same .fits .input), omega (arith, found .inside, found .same .fits .input, found .same .place, c .before .before .before .before .before .before .before .before .before .before .if1 .taken))
+
+sub-serve : tie.Need-sub-serve Inv-loop μ-loop
+sub-serve c = omega (arith, c .past .ensures .at)
+
+part-serve-start : tie.Need-part-serve-start Inv-loop μ-loop
+part-serve-start c = omega (arith, c .before .past .ensures .at)
+
+part-serve-end : tie.Need-part-serve-end Inv-loop μ-loop
+part-serve-end c =
+    let k = c .before in
+    let found = looked k .next .ensures in
+    omega (arith, k .past .ensures .at, found .inside, found .same .fits .order, found .same .fits .input, long (looked k))
+
+serve-requires : tie.Need-serve-requires Inv-loop μ-loop
+serve-requires c κs =
+    let k = c .before .before .before .before in
+    let l = at-loop k .loop in
+    let told = ready (eqb (l .s .offset) 0) (bytes k) (this k) in
+    (l .inv .3, told .0, told .1, told .2, l .inv .2, roomy (roomed k))
+
+loop-less : tie.Need-loop-less Inv-loop μ-loop
+loop-less c =
+    let k = c .before .before .before .before .before .before .before .before .before .before in
+    omega (arith, k .past .ensures .offset, looked k .next .ensures .same .place, k .before .if2 .left, k .before .before .before .before .before .before .before .before .before .before .before .if1 .taken)
+
+loop-again : tie.Need-loop-again Inv-loop μ-loop
+loop-again c =
+    let k = c .before .before .before .before .before .before .before .before .before .before in
+    let l = at-loop k .loop in
+    let served = c .before .before .before .before .before .serve in
+    let again = turn-served probe (state-of (l .device)) (l .s) (looked k .next .result) (l .out) 8400 (roomed k .make-room .result) (l .inv .5) (looked k .next .ensures) (roomed k .make-room .ensures .0)
+    (long (looked k)) (k .past .result) (k .past .ensures) (this k) (served .ensures .next) (served .ensures .line) (omega (arith, roomy (roomed k))) (l .inv .1) in
+    (long (looked k), omega (arith, served .kept .1 .1 .1 .0, l .inv .1), omega (arith, served .kept .1 .1 .0, l .inv .2), served .ensures .valid, again .0, again .1)
+
+same-length-4 : tie.Need-same-length-4 Inv-loop μ-loop
+same-length-4 c = omega (arith, c .before .before .loop .inv .0, c .before .before .before .before .before .before .before .before .before .pre .0)
+
+same-length-5 : tie.Need-same-length-5 Inv-loop μ-loop
+same-length-5 c = omega (arith, c .before .before .loop .inv .1, c .before .before .before .before .before .before .before .before .before .pre .1)
+
+same-length-6 : tie.Need-same-length-6 Inv-loop μ-loop
+same-length-6 c = omega (arith, c .before .before .loop .inv .2, c .before .before .before .before .before .before .before .before .before .pre .2)
+
+returns-2 : tie.Need-returns-2 Inv-loop μ-loop
+returns-2 c =
+    let l = c .before .before .loop in
+    (l .inv .4 .output, run-from _ _ (c .before .before .before .before .before .make .ensures) (c .before .before .before .new .ensures) (run-far probe (state-of (l .device)) (l .s) (l .input) (l .out) (l .inv .5) (c .if1 .left)))
+
+pub run-spec : {M : Type 1} → statement M
+run-spec =
+    tie.close
+    (tie.spec
+    Inv-loop
+    μ-loop
+    make-requires
+    new-requires
+    loop-holds
+    next-requires
+    make-room-requires
+    sub-stop
+    stop-requires
+    same-length
+    same-length-2
+    same-length-3
+    returns
+    past-requires
+    sub-serve
+    part-serve-start
+    part-serve-end
+    serve-requires
+    loop-less
+    loop-again
+    same-length-4
+    same-length-5
+    same-length-6
+    returns-2)

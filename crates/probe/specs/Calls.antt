@@ -1,0 +1,76 @@
+-- Each record's call, at the fields read out of its bytes (document 10, "Records of the base"), by the mailbox's own definitions; and what serving it gives:
+-- "Every answer is printed whole, also of a refused call". A field stands after the two bytes of the mark. Assumes nothing.
+use Prim.Native.Nat.{ℕ}
+use mathlib.Core.Bool.{cond}
+use mathlib.Core.List.{List, [], _∷_}
+use lib.Dec.{eqb}
+use lib.ListN.{length, getD, drop, replicate}
+use Rattle.wire.specs.Wire.{field, splice}
+use Rattle.mailbox.specs.State.{DeviceState}
+use Rattle.mailbox.specs.Outcome.{Outcome}
+use Rattle.mailbox.specs.Mailbox.{outcome}
+use Rattle.mailbox.specs.DeviceCalls.{EventOutcome, event-report, event-status, damage-total}
+use Rattle.protocol.specs.declared.formats.Format.the-variants.{Probe}
+use Rattle.protocol.specs.Text.{numbers-line}
+use Rattle.protocol.specs.Records.{mark-of, NW, CM, EV, MD, LT, ES, DT}
+use Rattle.protocol.specs.Formats.{fixed, size}
+use Rattle.protocol.specs.Calls.{new-call, media-call, line-call}
+use Rattle.protocol.specs.Runs.{Printed, Program}
+use Rattle.probe.specs.Lines.{buffer-line}
+
+-- `CM` "time 8, opcode 2, room 2, fill 1, length 2, payload"
+abbrev pub command-call : DeviceState → List ℕ → Outcome
+command-call d r = outcome d (field r 10 2) (drop 17 r) (field r 2 8) (field r 12 2)
+
+-- "the buffer that the call writes has `room` bytes, each of them `fill` before the call"
+abbrev pub filled : List ℕ → List ℕ
+filled r = replicate (field r 12 2) (getD r 14 0)
+
+-- `EV` "time 8, log 1, length 2, record of that length"
+abbrev pub event-call : DeviceState → List ℕ → EventOutcome
+event-call d r = event-report d (field r 2 8) (getD r 10 0) (drop 13 r)
+
+-- `NW code`: "A later make puts a new device in the place of the old one. A refused make prints its number, and the device that came beside it is used"
+unfoldable pub serve-new : List ℕ → Printed DeviceState
+serve-new r = record { line = numbers-line NW (new-call r .code ∷ []); next = new-call r .next }
+
+-- `CM code length bytes kept`: the buffer with the reply at its front
+unfoldable pub serve-command : DeviceState → List ℕ → Printed DeviceState
+serve-command d r =
+    let o = command-call d r in
+    record { line = buffer-line CM (o .code) (length (o .reply)) (getD r 14 0) (splice 0 (o .reply) (filled r)); next = o .next }
+
+-- `EV code stored` (1 or 0)
+unfoldable pub serve-event : DeviceState → List ℕ → Printed DeviceState
+serve-event d r = record { line = numbers-line EV (event-call d r .code ∷ cond (event-call d r .stored) 1 0 ∷ []); next = event-call d r .next }
+
+-- `MD code stored dropped`
+unfoldable pub serve-media : DeviceState → List ℕ → Printed DeviceState
+serve-media d r = record { line = numbers-line MD (media-call d r .code ∷ media-call d r .stored ∷ media-call d r .dropped ∷ []); next = media-call d r .next }
+
+-- `LT code answer type`
+unfoldable pub serve-line : DeviceState → List ℕ → Printed DeviceState
+serve-line d r = record { line = numbers-line LT (line-call d r .code ∷ line-call d r .number ∷ line-call d r .kind ∷ []); next = d }
+
+-- `ES bits waiting highest`
+unfoldable pub serve-status : DeviceState → Printed DeviceState
+serve-status d = record { line = numbers-line ES (event-status d .bits ∷ event-status d .waiting ∷ event-status d .highest ∷ []); next = d }
+
+-- `DT total`
+unfoldable pub serve-total : DeviceState → Printed DeviceState
+serve-total d = record { line = numbers-line DT (damage-total d ∷ []); next = d }
+
+-- a record, by its mark; of another mark there is none
+unfoldable pub serve-record : DeviceState → List ℕ → Printed DeviceState
+serve-record d r =
+    cond (eqb (mark-of r) (mark-of NW)) (serve-new r)
+    (cond (eqb (mark-of r) (mark-of CM)) (serve-command d r)
+    (cond (eqb (mark-of r) (mark-of EV)) (serve-event d r)
+    (cond (eqb (mark-of r) (mark-of MD)) (serve-media d r)
+    (cond (eqb (mark-of r) (mark-of LT)) (serve-line d r)
+    (cond (eqb (mark-of r) (mark-of ES)) (serve-status d)
+    (cond (eqb (mark-of r) (mark-of DT)) (serve-total d) (record { line = []; next = d })))))))
+
+-- the program
+abbrev pub probe : Program DeviceState
+probe = record { fixed = fixed Probe; size = size Probe; serve = serve-record }

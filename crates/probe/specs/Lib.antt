@@ -1,0 +1,3 @@
+-- The definitions that the contracts of crate `probe` cite, by subject; those that it shares with `bench` are in `protocol`.
+pub mod Lines
+pub mod Calls

@@ -1,0 +1,209 @@
+// Each record given to the device, and its line printed (document 10, "Records of the base"). A record's function gives the device that follows.
+use crate::buffer;
+use mailbox::device::Answer;
+use mailbox::device::Device;
+use mailbox::device_calls::EventAnswer;
+use poison::line_test;
+use protocol::calls;
+use protocol::calls::Served;
+use protocol::formats;
+use protocol::formats::Format;
+use protocol::output;
+use protocol::records::mark;
+use protocol::stream;
+use protocol::stream::Stream;
+ghost use mathlib.Core.Path.{_≡_};
+ghost use Prim.Native.Nat.{_+_, _≤_, _<_};
+ghost use lib.ListN.{length};
+ghost use Rattle.wire.specs.Wire.{field};
+ghost use Rattle.mailbox.specs.State.{ValidDevice, state-of};
+ghost use Rattle.mailbox.specs.Contracts.{Answered, EventDone};
+ghost use Rattle.mailbox.specs.DeviceCalls.{new-device};
+ghost use Rattle.protocol.specs.Stream.{unread};
+ghost use Rattle.protocol.specs.Records.{mark-of, CM};
+ghost use Rattle.protocol.specs.Formats.{probe-least};
+ghost use Rattle.protocol.specs.Contracts.{Serves};
+ghost use Rattle.protocol.specs.Runs.{machine-of, Ends};
+ghost use Rattle.probe.specs.Calls.{command-call, filled, event-call, serve-new, serve-command, serve-event, serve-media, serve-line, serve-status, serve-total, serve-record, probe};
+
+// NW (volatile 2, persistent 2): the device made takes the place of the old one, also where it stands beside a refusal.
+fn make(bytes: &[u8], out: &mut [u8], used: usize) -> Served
+    requires { ⌜ (6 ≤ length (now bytes)) × (used + 8400 ≤ length (now out)) ⌝ }
+    ensures { λ r. ⌜ Serves (serve-new (now (bytes .entry))) used r (now (out .entry)) (now (out .exit)) ⌝ }
+{
+    let made = calls::make(bytes);
+    let code = made.code as u64;
+    let numbers = [code];
+    let end = output::put_numbers(out, used, b'N', b'W', &numbers);
+    let next = made.device;
+    Served {
+        used: end,
+        device: next,
+    }
+}
+
+// CM (time 8, opcode 2, room 2, fill 1, length 2, payload): the call, with a buffer of `room` bytes.
+fn call_command(device: Device, bytes: &[u8], reply: &mut [u8]) -> Answer
+    requires { ⌜ ValidDevice device × (17 ≤ length (now bytes)) × (length (now reply) ≡ field (now bytes) 12 2) ⌝ }
+    ensures { λ r. ⌜ Answered (command-call (state-of device) (now (bytes .entry))) device r (filled (now (bytes .entry))) (now (reply .exit)) ⌝ }
+{
+    let time = wire::get(bytes, 2, 8);
+    let opcode = wire::get(bytes, 10, 2) as u16;
+    buffer::fill(reply, bytes[14]);
+    device.command(opcode, &bytes[17..], time, reply)
+}
+
+// CM: the return number, and what came back in the buffer.
+fn command(device: Device, bytes: &[u8], reply: &mut [u8], out: &mut [u8], used: usize) -> Served
+    requires { ⌜ ValidDevice device × (17 ≤ length (now bytes)) × (length (now reply) ≡ field (now bytes) 12 2) × (field (now bytes) 12 2 ≤ 4096) × (used + 8400 ≤ length (now out)) ⌝ }
+    ensures { λ r. ⌜ Serves (serve-command (state-of device) (now (bytes .entry))) used r (now (out .entry)) (now (out .exit)) ⌝ }
+{
+    let answer = call_command(device, bytes, reply);
+    let end = buffer::put_line(
+        out,
+        used,
+        b'C',
+        b'M',
+        answer.code,
+        reply,
+        answer.length,
+        bytes[14],
+    );
+    let next = answer.device;
+    Served {
+        used: end,
+        device: next,
+    }
+}
+
+// EV (time 8, log 1, length 2, record): the call.
+fn call_event(device: Device, bytes: &[u8]) -> EventAnswer
+    requires { ⌜ ValidDevice device × (13 ≤ length (now bytes)) ⌝ }
+    ensures { λ r. ⌜ EventDone (event-call (state-of device) (now (bytes .entry))) device r ⌝ }
+{
+    let time = wire::get(bytes, 2, 8);
+    device.event_report(time, bytes[10], &bytes[13..])
+}
+
+// EV: the return number, and stored or not.
+fn event(device: Device, bytes: &[u8], out: &mut [u8], used: usize) -> Served
+    requires { ⌜ ValidDevice device × (13 ≤ length (now bytes)) × (used + 8400 ≤ length (now out)) ⌝ }
+    ensures { λ r. ⌜ Serves (serve-event (state-of device) (now (bytes .entry))) used r (now (out .entry)) (now (out .exit)) ⌝ }
+{
+    let answer = call_event(device, bytes);
+    let code = answer.code as u64;
+    let stored = output::bit(answer.stored);
+    let numbers = [code, stored];
+    let end = output::put_numbers(out, used, b'E', b'V', &numbers);
+    let next = answer.device;
+    Served {
+        used: end,
+        device: next,
+    }
+}
+
+// MD: the return number, and how many lines were stored and dropped.
+fn media(device: Device, bytes: &[u8], out: &mut [u8], used: usize) -> Served
+    requires { ⌜ ValidDevice device × (23 ≤ length (now bytes)) × (used + 8400 ≤ length (now out)) ⌝ }
+    ensures { λ r. ⌜ Serves (serve-media (state-of device) (now (bytes .entry))) used r (now (out .entry)) (now (out .exit)) ⌝ }
+{
+    let answer = calls::media(device, bytes);
+    let code = answer.code as u64;
+    let stored = answer.stored as u64;
+    let dropped = answer.dropped as u64;
+    let numbers = [code, stored, dropped];
+    let end = output::put_numbers(out, used, b'M', b'D', &numbers);
+    let next = answer.device;
+    Served {
+        used: end,
+        device: next,
+    }
+}
+
+// LT: the return number, the answer's number and the type.
+fn line(device: Device, bytes: &[u8], out: &mut [u8], used: usize) -> Served
+    requires { ⌜ ValidDevice device × (10 ≤ length (now bytes)) × (used + 8400 ≤ length (now out)) ⌝ }
+    ensures { λ r. ⌜ Serves (serve-line (state-of device) (now (bytes .entry))) used r (now (out .entry)) (now (out .exit)) ⌝ }
+{
+    let told = calls::line(device, bytes);
+    let answer = told.answer;
+    let code = told.code as u64;
+    let number = line_test::answer_number(answer);
+    let kind = line_test::answer_kind(answer);
+    let numbers = [code, number, kind];
+    let end = output::put_numbers(out, used, b'L', b'T', &numbers);
+    Served { used: end, device }
+}
+
+// ES: which logs are waiting, how many, and the highest.
+fn status(device: Device, out: &mut [u8], used: usize) -> Served
+    requires { ⌜ ValidDevice device × (used + 8400 ≤ length (now out)) ⌝ }
+    ensures { λ r. ⌜ Serves (serve-status (state-of device)) used r (now (out .entry)) (now (out .exit)) ⌝ }
+{
+    let told = device.event_status();
+    let bits = told.bits as u64;
+    let waiting = told.waiting as u64;
+    let highest = told.highest as u64;
+    let numbers = [bits, waiting, highest];
+    let end = output::put_numbers(out, used, b'E', b'S', &numbers);
+    Served { used: end, device }
+}
+
+// DT: the sum of entry lengths.
+fn total(device: Device, out: &mut [u8], used: usize) -> Served
+    requires { ⌜ ValidDevice device × (used + 8400 ≤ length (now out)) ⌝ }
+    ensures { λ r. ⌜ Serves (serve-total (state-of device)) used r (now (out .entry)) (now (out .exit)) ⌝ }
+{
+    let sum = device.damage_total();
+    let numbers = [sum];
+    let end = output::put_numbers(out, used, b'D', b'T', &numbers);
+    Served { used: end, device }
+}
+
+// Serves a record by its mark. A command is lent as much of the buffer as it asks for.
+fn serve(device: Device, bytes: &[u8], reply: &mut [u8], out: &mut [u8], used: usize) -> Served
+    requires { ⌜ ValidDevice device × (2 ≤ length (now bytes)) × (probe-least (mark-of (now bytes)) ≤ length (now bytes)) × (mark-of (now bytes) ≡ mark-of CM → field (now bytes) 12 2 ≤ 4096) × (length (now reply) ≡ 4096) × (used + 8400 ≤ length (now out)) ⌝ }
+    ensures { λ r. ⌜ Serves (serve-record (state-of device) (now (bytes .entry))) used r (now (out .entry)) (now (out .exit)) ⌝ }
+{
+    match mark(bytes) {
+        0x4E57 => make(bytes, out, used),
+        0x434D => {
+            let room = wire::get(bytes, 12, 2) as usize;
+            command(device, bytes, &mut reply[..room], out, used)
+        }
+        0x4556 => event(device, bytes, out, used),
+        0x4D44 => media(device, bytes, out, used),
+        0x4C54 => line(device, bytes, out, used),
+        0x4553 => status(device, out, used),
+        0x4454 => total(device, out, used),
+        _ => Served { used, device },
+    }
+}
+
+// Serves the records: how many bytes of the output buffer are not written yet. The first record is a make, so that the device before it serves none. A proved
+// loop has to end: it does at an offset that no input reaches.
+pub(crate) fn run(input: &mut [u8], out: &mut [u8], reply: &mut [u8]) -> usize
+    requires { ⌜ (length (now input) ≡ 65536) × (length (now out) ≡ 65536) × (length (now reply) ≡ 4096) ⌝ }
+    ensures { λ r. ⌜ (r ≤ 65536) × Ends probe (machine-of (new-device 1 0) unread (now (input .entry)) (now (out .entry))) r (now (out .exit)) ⌝ }
+{
+    let made = Device::make(1, 0);
+    let mut device = made.device;
+    let mut s = Stream::new();
+    while s.offset < 9223372036854775808 {
+        let found = formats::next(Format::Probe, s, input, out);
+        let here = found.stream;
+        let used = stream::make_room(out, here.used, 8400);
+        let at = here.at;
+        if found.size == 0 {
+            return output::stop(out, used, here.end - at, here.offset);
+        }
+        let mut rest = here.past(found.size);
+        let to = rest.at;
+        let served = serve(device, &input[at..to], reply, out, used);
+        let next = served.device;
+        device = next;
+        rest.used = served.used;
+        s = rest;
+    }
+    s.used
+}
