@@ -73,11 +73,10 @@ fn media(device: Device, bytes: &[u8], out: &mut [u8], used: usize) -> Served
     ensures { λ r. ⌜ Serves (serve-media (state-of device) (now (bytes .entry))) used r (now (out .entry)) (now (out .exit)) ⌝ }
 {
     let answer = calls::media(device, bytes);
-    let numbers = [
-        answer.code as u64,
-        answer.stored as u64,
-        answer.dropped as u64,
-    ];
+    let code = answer.code as u64;
+    let stored = answer.stored as u64;
+    let dropped = answer.dropped as u64;
+    let numbers = [code, stored, dropped];
     let end = lines::put_told(out, used, b'M', b'D', &numbers);
     let next = answer.device;
     Served {
@@ -93,11 +92,10 @@ fn line(device: Device, bytes: &[u8], out: &mut [u8], used: usize) -> usize
 {
     let told = calls::line(device, bytes);
     let answer = told.answer;
-    let numbers = [
-        told.code as u64,
-        line_test::answer_number(answer),
-        line_test::answer_kind(answer),
-    ];
+    let code = told.code as u64;
+    let number = line_test::answer_number(answer);
+    let kind = line_test::answer_kind(answer);
+    let numbers = [code, number, kind];
     lines::put_told(out, used, b'L', b'T', &numbers)
 }
 
@@ -119,25 +117,25 @@ fn serve(made: Device, start: Stream, input: &mut [u8], out: &mut [u8], reply: &
         let mut rest = here.past(found.size);
         let to = rest.at;
         match mark(&input[at..to]) {
-            0x434D => {
+            0x434D => { // CM
                 let served = command(device, &input[at..to], reply, out, used);
                 let next = served.device;
                 device = next;
                 rest.used = served.used;
             }
-            0x4556 => {
+            0x4556 => { // EV
                 let answer = call_event(device, &input[at..to]);
                 let next = answer.device;
                 device = next;
                 rest.used = lines::put_event(out, used, answer.code, answer.stored);
             }
-            0x4D44 => {
+            0x4D44 => { // MD
                 let served = media(device, &input[at..to], out, used);
                 let next = served.device;
                 device = next;
                 rest.used = served.used;
             }
-            0x4C54 => {
+            0x4C54 => { // LT
                 rest.used = line(device, &input[at..to], out, used);
             }
             _ => {
@@ -156,7 +154,8 @@ fn begin(bytes: &[u8], out: &mut [u8]) -> Begun
 {
     let made = calls::make(bytes);
     let code = made.code;
-    let numbers = [code as u64];
+    let number = code as u64;
+    let numbers = [number];
     let used = output::put_numbers(out, 0, b'N', b'W', &numbers);
     let device = made.device;
     Begun { code, used, device }

@@ -166,16 +166,16 @@ fn serve(device: Device, bytes: &[u8], reply: &mut [u8], out: &mut [u8], used: u
     ensures { λ r. ⌜ Serves (serve-record (state-of device) (now (bytes .entry))) used r (now (out .entry)) (now (out .exit)) ⌝ }
 {
     match mark(bytes) {
-        0x4E57 => make(bytes, out, used),
-        0x434D => {
+        0x4E57 => make(bytes, out, used), // NW
+        0x434D => { // CM
             let room = wire::get(bytes, 12, 2) as usize;
             command(device, bytes, &mut reply[..room], out, used)
         }
-        0x4556 => event(device, bytes, out, used),
-        0x4D44 => media(device, bytes, out, used),
-        0x4C54 => line(device, bytes, out, used),
-        0x4553 => status(device, out, used),
-        0x4454 => total(device, out, used),
+        0x4556 => event(device, bytes, out, used), // EV
+        0x4D44 => media(device, bytes, out, used), // MD
+        0x4C54 => line(device, bytes, out, used), // LT
+        0x4553 => status(device, out, used), // ES
+        0x4454 => total(device, out, used), // DT
         _ => Served { used, device },
     }
 }

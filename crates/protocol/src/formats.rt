@@ -27,10 +27,10 @@ fn bench_fixed(first: bool, mark: u64) -> usize
         return if mark == 0x4E57 { 6 } else { 0 };
     }
     match mark {
-        0x434D => 14,
-        0x4556 => 139,
-        0x4D44 => 23,
-        0x4C54 => 10,
+        0x434D => 14, // CM
+        0x4556 => 139, // EV
+        0x4D44 => 23, // MD
+        0x4C54 => 10, // LT
         _ => 0,
     }
 }
@@ -56,13 +56,13 @@ fn probe_least(mark: u64) -> usize
     ensures { λ r. ⌜ r ≡ probe-least mark ⌝ }
 {
     match mark {
-        0x4E57 => 6,
-        0x434D => 17,
-        0x4556 => 13,
-        0x4D44 => 23,
-        0x4C54 => 10,
-        0x4553 => 2,
-        0x4454 => 2,
+        0x4E57 => 6, // NW
+        0x434D => 17, // CM
+        0x4556 => 13, // EV
+        0x4D44 => 23, // MD
+        0x4C54 => 10, // LT
+        0x4553 => 2, // ES
+        0x4454 => 2, // DT
         _ => 0,
     }
 }
@@ -111,8 +111,8 @@ fn probe_size(head: &[u8]) -> usize
     ensures { λ r. ⌜ (r ≡ probe-size (now (head .entry))) × (r ≤ 65536) ⌝ }
 {
     match records::mark(head) {
-        0x434D => command_size(head),
-        0x4556 => event_size(head),
+        0x434D => command_size(head), // CM
+        0x4556 => event_size(head), // EV
         _ => head.len(),
     }
 }

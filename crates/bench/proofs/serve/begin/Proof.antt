@@ -7,8 +7,8 @@ use Rattle.bench.proofs.serve.begin.Tie as tie
 make-requires : tie.Need-make-requires
 make-requires c κs = search needs
 
-cast-t8 : tie.Need-cast-t8
-cast-t8 c = search needs
+cast-number : tie.Need-cast-number
+cast-number c = search needs
 
 slice-aggregate-put-numbers : tie.Need-slice-aggregate-put-numbers
 slice-aggregate-put-numbers c = search needs
@@ -27,7 +27,7 @@ begin-spec =
     tie.close
     (tie.spec
     make-requires
-    cast-t8
+    cast-number
     slice-aggregate-put-numbers
     put-numbers-requires
     same-length

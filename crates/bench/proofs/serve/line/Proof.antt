@@ -7,8 +7,8 @@ use Rattle.bench.proofs.serve.line.Tie as tie
 line-requires : tie.Need-line-requires
 line-requires c κs = search needs
 
-cast-t8 : tie.Need-cast-t8
-cast-t8 c = search needs
+cast-code : tie.Need-cast-code
+cast-code c = search needs
 
 answer-number-requires : tie.Need-answer-number-requires
 answer-number-requires c κs = search needs
@@ -35,7 +35,7 @@ line-spec =
     tie.close
     (tie.spec
     line-requires
-    cast-t8
+    cast-code
     answer-number-requires
     answer-kind-requires
     slice-aggregate-put-told

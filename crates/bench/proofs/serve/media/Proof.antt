@@ -7,14 +7,14 @@ use Rattle.bench.proofs.serve.media.Tie as tie
 media-requires : tie.Need-media-requires
 media-requires c κs = search needs
 
-cast-t9 : tie.Need-cast-t9
-cast-t9 c = search needs
+cast-code : tie.Need-cast-code
+cast-code c = search needs
 
-cast-t10 : tie.Need-cast-t10
-cast-t10 c = search needs
+cast-stored : tie.Need-cast-stored
+cast-stored c = search needs
 
-cast-t11 : tie.Need-cast-t11
-cast-t11 c = search needs
+cast-dropped : tie.Need-cast-dropped
+cast-dropped c = search needs
 
 slice-aggregate-put-told : tie.Need-slice-aggregate-put-told
 slice-aggregate-put-told c = search needs
@@ -33,9 +33,9 @@ media-spec =
     tie.close
     (tie.spec
     media-requires
-    cast-t9
-    cast-t10
-    cast-t11
+    cast-code
+    cast-stored
+    cast-dropped
     slice-aggregate-put-told
     put-told-requires
     same-length
