@@ -87,6 +87,38 @@ fn errors_name_file_line_and_what_was_expected() {
     assert!(error("command turn-off").starts_with("case.txt:1: expected opcode= or one of get-"));
 }
 
+/// Document 10: "length 2, record of that length"; bytes 15 and 16 of a CM record
+/// of probe, 11 and 12 of an EV; 12 and 13 of a CM of bench.
+#[test]
+fn a_length_field_is_put_whatever_follows() {
+    let bytes = |format, words| line_bytes(format, words).unwrap();
+    let command = bytes(Format::Probe, "command get-timestamp length-field=0x1001");
+    assert_eq!((&command[15..], command.len()), (&[0x01, 0x10][..], 17));
+    let event = bytes(Format::Probe, "event log=0 bytes=4553 length-field=0");
+    assert_eq!(&event[11..], [0, 0, 0x45, 0x53]);
+    let bench = bytes(Format::Bench, "command get-timestamp length-field=2049");
+    assert_eq!(&bench[12..], [0x01, 0x08]);
+    for (format, words, message) in [
+        (
+            Format::Bench,
+            "event log=0 fill=00 length-field=1",
+            "expected no `length-field=` here",
+        ),
+        (
+            Format::Probe,
+            "line address=0 length-field=1",
+            "expected no `length-field=` here",
+        ),
+        (
+            Format::Probe,
+            "command identify length-field=65536",
+            "expected length-field= once, from 0 to 65535",
+        ),
+    ] {
+        assert_eq!(line_bytes(format, words).unwrap_err(), message);
+    }
+}
+
 #[test]
 fn repeat_blocks_and_counters() {
     let text = "new 1 0\nrepeat 2 k\nrepeat 3\nline address={k*1000+i*64-0x0}\nend\nend\n";

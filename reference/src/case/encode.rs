@@ -97,24 +97,65 @@ fn program(mut lines: Vec<PlainLine>) -> Result<(Format, Vec<PlainLine>), (usize
 
 /// The bytes of a plain line, whose stated answer must be one of its record.
 fn item_bytes(format: Format, line: &PlainLine) -> Result<Vec<u8>, String> {
-    let record = record(format, &line.words)?;
+    let (words, length) = length_field(&line.words)?;
+    let record = record(format, &words)?;
     if let Some(expected) = &line.expected {
         check_stated(format, expected, record.as_ref())?;
     }
-    bytes_of(format, &line.words, record.as_ref())
+    bytes_of(format, &words, record.as_ref(), length)
 }
 
 /// The bytes of the words of one line.
 pub fn line_bytes(format: Format, words: &str) -> Result<Vec<u8>, String> {
-    bytes_of(format, words, record(format, words)?.as_ref())
+    let (words, length) = length_field(words)?;
+    bytes_of(format, &words, record(format, &words)?.as_ref(), length)
 }
 
-fn bytes_of(format: Format, words: &str, record: Option<&Record>) -> Result<Vec<u8>, String> {
-    match record {
-        Some(record) => format
-            .bytes(record)
-            .ok_or_else(|| "expected a record of the case's program".to_string()),
-        None => raw_bytes(words.strip_prefix("bytes").unwrap_or_default()),
+fn bytes_of(
+    format: Format,
+    words: &str,
+    record: Option<&Record>,
+    length: Option<u16>,
+) -> Result<Vec<u8>, String> {
+    let Some(record) = record else {
+        return raw_bytes(words.strip_prefix("bytes").unwrap_or_default());
+    };
+    let mut bytes = format
+        .bytes(record)
+        .ok_or_else(|| "expected a record of the case's program".to_string())?;
+    if let Some(length) = length {
+        let at = length_place(format, record).ok_or("expected no `length-field=` here")?;
+        bytes[at..at + 2].copy_from_slice(&length.to_le_bytes());
+    }
+    Ok(bytes)
+}
+
+/// The words of a `command` or `event` line without `length-field=`, and the
+/// length that it puts into the record, whatever follows.
+fn length_field(words: &str) -> Result<(String, Option<u16>), String> {
+    const NAME: &str = "length-field=";
+    let sized = words.starts_with("command ") || words.starts_with("event ");
+    if !sized || !words.contains(NAME) {
+        return Ok((words.to_string(), None));
+    }
+    let (given, others): (Vec<&str>, Vec<&str>) = words
+        .split_whitespace()
+        .partition(|word| word.starts_with(NAME));
+    let number = match given.as_slice() {
+        [word] => whole_number(&word[NAME.len()..]).and_then(|n| u16::try_from(n).ok()),
+        _ => None,
+    };
+    let number = number.ok_or("expected length-field= once, from 0 to 65535")?;
+    Ok((others.join(" "), Some(number)))
+}
+
+/// Where a record's length field stands, if it has one.
+fn length_place(format: Format, record: &Record) -> Option<usize> {
+    match (format, record) {
+        (Format::Bench, Record::Command { .. }) => Some(12),
+        (Format::Probe, Record::Command { .. }) => Some(15),
+        (Format::Probe, Record::Event { .. }) => Some(11),
+        _ => None,
     }
 }
 
