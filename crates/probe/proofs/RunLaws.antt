@@ -8,8 +8,16 @@ use Rattle.mailbox.specs.DeviceCalls.{make, new-device}
 use Rattle.mailbox.specs.Contracts.{Makes}
 use Rattle.protocol.specs.declared.stream.Stream.{Stream}
 use Rattle.protocol.specs.Stream.{unread}
-use Rattle.protocol.specs.Runs.{Machine, machine-of, Ends}
-use Rattle.probe.specs.Calls.{probe}
+use Rattle.protocol.specs.declared.formats.Format.the-variants.{Probe}
+use Rattle.protocol.specs.Records.{OneRecord}
+use Rattle.protocol.proofs.Laws.{first-make}
+use Rattle.protocol.specs.Runs.{Machine, machine-of, reading, Ends}
+use Rattle.probe.specs.Calls.{serve-record, probe}
+
+-- what the first record gives does not depend on the device before it
+pub device-before-unseen : (d d' : DeviceState) (r : List ℕ) → OneRecord (reading probe 0) r → serve-record d r ≡ serve-record d' r
+unfolding serve-record
+device-before-unseen d d' r this = let new = first-make Probe r this in rw new
 
 one-unit : make 1 0 .next ≡ new-device 1 0
 unfolding make

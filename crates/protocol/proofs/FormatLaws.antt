@@ -195,11 +195,12 @@ module _ (h : List ℕ) where
 pub sized : (f : Format) (first : Bool) → Sized (fixed f first) (size f)
 sized f first = record { marked = λ m. fixed-good f first m .0; headed = λ h. size-headed h f }
 
--- a first record that was found
+-- a first record that was found is a make, with its fields
+pub first-make : (f : Format) (r : List ℕ) → OneRecord (front-size (fixed f true) (size f)) r → mark-of r ≡ mark-of NW
+first-make f r this = first-new f (mark-of r) (fixed-part (fixed f true) (size f) (sized f true) r this .0)
+
 pub new-there : (f : Format) (r : List ℕ) → OneRecord (front-size (fixed f true) (size f)) r → 6 ≤ length r
-new-there f r this =
-    let part = fixed-part (fixed f true) (size f) (sized f true) r this in
-    omega (arith, part .1, fixed-new f, ap (fixed f true) (first-new f (mark-of r) (part .0)))
+new-there f r this = omega (arith, fixed-part (fixed f true) (size f) (sized f true) r this .1, fixed-new f, ap (fixed f true) (first-make f r this))
 
 -- any record that was found has the fields of its mark
 pub fields-there : (f : Format) (first : Bool) (r : List ℕ) → OneRecord (front-size (fixed f first) (size f)) r → (m : ℕ) → mark-of r ≡ m → fixed f false m ≤ length r
