@@ -64,20 +64,9 @@ getD-part at n i l h = getD-take n (drop at l) i 0 h
 pub front-more : (n : ℕ) (l more front : List ℕ) → take n l ≡ front → n ≤ length l → take n (l ++ more) ≡ front
 front-more n l more front e fits = take-append-le n l more fits ∙ e
 
--- how many bytes are left, and a field and a byte of them, read out of the buffer
-module _ (s : Stream) (input : List ℕ) (fits : Fits s) (long : length input ≡ 65536) where
-  pub length-left : length (left s input) ≡ count-left s
-  length-left = length-part (s .at) (count-left s) input (omega arith)
-
-  pub field-left : (i k : ℕ) → i + k ≤ count-left s → field (left s input) i k ≡ field input (s .at + i) k
-  unfolding part field
-  field-left i k h =
-      sym (field-front (count-left s) i k (drop (s .at) input) (left s input) refl h (rw length-drop (omega arith)))
-      ∙ ap (λ (l : List ℕ). number (take k l)) (drop-drop i (s .at) input)
-
-  pub getD-left : (i : ℕ) → i < count-left s → getD (left s input) i 0 ≡ getD input (s .at + i) 0
-  unfolding part
-  getD-left i h = getD-take (count-left s) (drop (s .at) input) i 0 h ∙ getD-drop (s .at) input i 0
+-- how many bytes are left
+pub length-left : (s : Stream) (input : List ℕ) → Fits s → length input ≡ 65536 → length (left s input) ≡ count-left s
+length-left s input fits long = length-part (s .at) (count-left s) input (omega arith)
 
 -- nothing read
 pub continues-here : (s : Stream) (input : List ℕ) → Fits s → length input ≡ 65536 → Continues s s input input
