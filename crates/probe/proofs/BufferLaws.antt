@@ -33,7 +33,7 @@ still-more fill i l h e = still-step fill i l h ∙ ap (λ (t : Bool). t && stil
 pub still-other : (fill i : ℕ) (l : List ℕ) → i < length l → (getD l i 0 ≡ fill → ⊥) → false ≡ still fill (drop i l)
 still-other fill i l h e = sym (still-step fill i l h ∙ ap (λ (t : Bool). t && still fill (drop (i + 1) l)) (ne-eqb (getD l i 0) fill e))
 
--- the bytes that a reply leaves of a filled buffer are still as they were: with the contract of `command`, the last column of every CM line is 1
+-- the bytes that a reply leaves of a filled buffer are still as they were
 still-filled : (fill n : ℕ) → still fill (replicate n fill) ≡ true
 unfolding still
 still-filled fill zero = refl

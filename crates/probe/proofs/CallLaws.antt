@@ -1,8 +1,9 @@
 -- The mailbox's answers said of a record's bytes, each answer with its line, and which of them serves a record of each mark. Assumes nothing.
-use mathlib.Core.Path.{_≡_, refl, sym, ap, subst, _∙_}
-use mathlib.Core.Bool.{Bool, cond}
+use mathlib.Core.Path.{_≡_, refl, sym, ap, ap₂, subst, _∙_}
+use mathlib.Core.Bool.{Bool, true, cond}
 use mathlib.Core.List.{List, [], _∷_}
 use Prim.Native.Nat.{ℕ, _-_}
+use native.Mathlib.Omega.{arith}
 use lib.ListN.{length, drop, getD, length-replicate}
 use borrow.Author.Tests.{ne-eqb}
 use Rattle.wire.specs.Wire.{field}
@@ -24,8 +25,9 @@ use Rattle.protocol.specs.Text.{numbers-line}
 use Rattle.protocol.specs.Records.{mark-of, NW, CM, EV, MD, LT, ES, DT}
 use Rattle.protocol.specs.Calls.{new-call, media-call, line-call}
 use Rattle.protocol.specs.Contracts.{PutsLine, Serves}
-use Rattle.protocol.proofs.Laws.{puts-line-as, serves-as}
-use Rattle.probe.specs.Lines.{buffer-line}
+use Rattle.protocol.proofs.Laws.{reply-fits, puts-line-as, serves-as}
+use Rattle.probe.specs.Lines.{still, buffer-line}
+use Rattle.probe.proofs.BufferLaws.{always-kept}
 use Rattle.probe.specs.Calls.{command-call, filled, event-call, serve-new, serve-command, serve-event, serve-media, serve-line, serve-status, serve-total, serve-record}
 
 -- the calls at the record's fields
@@ -43,6 +45,14 @@ event-as bytes record' time log {d} {r} h et el er = subst (λ (o : EventOutcome
 -- a buffer of the record's room is as long as the one that was filled
 pub filled-long : (bytes buffer : List ℕ) → length buffer ≡ field bytes 12 2 → length buffer ≡ length (filled bytes)
 filled-long bytes buffer e = e ∙ sym (length-replicate (field bytes 12 2) (getD bytes 14 0))
+
+-- whatever a command answers, the bytes that its reply leaves of the buffer are still as they were filled: the last column of every CM line is 1
+pub command-kept : (bytes after : List ℕ) {d : Device} {a : Answer} → Answered (command-call (state-of d) bytes) d a (filled bytes) after → length after ≡ length (filled bytes)
+    → still (getD bytes 14 0) (drop (a .length) after) ≡ true
+command-kept bytes after {d} told kept =
+    ap₂ (λ (n : ℕ) (b : List ℕ). still (getD bytes 14 0) (drop n b)) (told .size) (told .bytes)
+    ∙ always-kept (getD bytes 14 0) (field bytes 12 2) (command-call (state-of d) bytes .reply)
+    (omega (arith, told .size, reply-fits told kept, kept, length-replicate (field bytes 12 2) (getD bytes 14 0)))
 
 -- each record served
 pub new-served : (bytes : List ℕ) {m : Made} {e used : ℕ} {before after : List ℕ} → Makes (new-call bytes) m → PutsLine used (numbers-line NW (m .code ∷ [])) before after e
