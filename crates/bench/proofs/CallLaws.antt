@@ -27,17 +27,6 @@ use Rattle.bench.specs.Lines.{command-line, told-line}
 use Rattle.bench.specs.Calls.{command-call, event-call, first-record, serve-command, serve-event, serve-media, serve-line, serve-record}
 use Rattle.bench.specs.Contracts.{Begins}
 
--- the calls at the record's fields
-pub command-as : (bytes payload : List ℕ) (op time room : ℕ) {d : Device} {r : Answer} {before after : List ℕ}
-    → Answered (outcome (state-of d) op payload time room) d r before after → op ≡ field bytes 10 2 → payload ≡ drop 14 bytes → time ≡ field bytes 2 8 → room ≡ 2048
-    → Answered (command-call (state-of d) bytes) d r before after
-command-as bytes payload op time room {d} {r} {before} {after} h eo ep et er =
-    subst (λ (o : Outcome). Answered o d r before after) (λ i. outcome (state-of d) (eo i) (ep i) (et i) (er i)) h
-
-pub event-as : (bytes record' : List ℕ) (time log : ℕ) {d : Device} {r : EventAnswer} → EventDone (event-report (state-of d) time log record') d r
-    → time ≡ field bytes 2 8 → log ≡ getD bytes 10 0 → record' ≡ part 11 128 bytes → EventDone (event-call (state-of d) bytes) d r
-event-as bytes record' time log {d} {r} h et el er = subst (λ (o : EventOutcome). EventDone o d r) (λ i. event-report (state-of d) (et i) (el i) (er i)) h
-
 -- the reply, read back out of the reply buffer
 reply-read : {o : Outcome} {d : Device} {a : Answer} {before after : List ℕ} → Answered o d a before after → take (a .length) after ≡ o .reply
 unfolding splice

@@ -6,11 +6,11 @@ use Prim.Native.Nat.{ℕ, _+_, _≤_, _<_}
 use native.Mathlib.Omega.{arith}
 use lib.ListN.{length, take, drop, getD, length-append, length-take}
 use borrow.Author.Tests.{eq-eqb, ne-eqb}
-use Rattle.protocol.specs.Text.{hex, columns, line-end, numbers-line}
+use Rattle.protocol.specs.Text.{hex, bytes-column, columns, line-end, numbers-line}
 use Rattle.protocol.specs.Records.{CM}
 use Rattle.protocol.specs.Contracts.{Puts, PutsLine}
-use Rattle.protocol.proofs.Laws.{puts-then, puts-as, puts-line-as, fits-room, length-columns, length-hex}
-use Rattle.bench.specs.Lines.{reply-column, command-line, told-line}
+use Rattle.protocol.proofs.Laws.{puts-then, puts-as, puts-line-as, some-bytes, fits-room, length-columns, length-hex}
+use Rattle.bench.specs.Lines.{command-line, told-line}
 
 -- EV, MD and LT: the code alone, and all numbers
 pub told-refused : (mark numbers : List ℕ) {used e : ℕ} {before after : List ℕ} → PutsLine used (numbers-line mark (take 1 numbers)) before after e → (getD numbers 0 0 ≡ 0 → ⊥)
@@ -24,11 +24,6 @@ pub told-all : (mark numbers : List ℕ) {used e : ℕ} {before after : List ℕ
 unfolding told-line
 told-all mark [] put some success = absurd (omega arith)
 told-all mark (code ∷ numbers) put some success = puts-line-as put (ap (λ (t : Bool). numbers-line mark (code ∷ cond t numbers [])) (sym (eq-eqb code 0 success)))
-
--- CM: "lower-case hex (none if length 0)"
-some-reply : (bs : List ℕ) → 0 < length bs → reply-column bs ≡ 32 ∷ hex bs
-some-reply [] some = absurd (omega arith)
-some-reply (b ∷ bs) some = refl
 
 -- no line is longer than 4,200 bytes
 pub length-command-line : (code : ℕ) (reply : List ℕ) → length reply ≤ 2048 → length (command-line code reply) ≤ 4200
@@ -55,7 +50,7 @@ module _ (code n : ℕ) {used m : ℕ} {d₀ d₁ : List ℕ} (reply : List ℕ)
       (puts-as (puts-then start last (omega (arith, columns-end)))
       (ap (λ (l : List ℕ). l ++ line-end) (sym (append-nil (CM ++ columns (code ∷ n ∷ []))))
       ∙ ap (λ (k : ℕ). ((CM ++ columns (code ∷ k ∷ [])) ++ []) ++ line-end) (sym long)
-      ∙ ap (λ (l : List ℕ). ((CM ++ columns (code ∷ length (take n reply) ∷ [])) ++ reply-column l) ++ line-end) (sym (ap (λ (k : ℕ). take k reply) none))))
+      ∙ ap (λ (l : List ℕ). ((CM ++ columns (code ∷ length (take n reply) ∷ [])) ++ bytes-column [] l) ++ line-end) (sym (ap (λ (k : ℕ). take k reply) none))))
       (length-command-line code (take n reply) (omega (arith, long))) room
 
   pub command-told : {k e : ℕ} {d₂ d₃ : List ℕ} → Puts m (32 ∷ hex (take n reply)) d₁ d₂ k → Puts k line-end d₂ d₃ e → (n ≡ 0 → ⊥)
@@ -65,5 +60,5 @@ module _ (code n : ℕ) {used m : ℕ} {d₀ d₁ : List ℕ} (reply : List ℕ)
       fits-room 4200
       (puts-as (puts-then (puts-then start bytes (omega (arith, bytes .end, bytes-end bytes))) last (omega (arith, bytes-end bytes)))
       (ap (λ (k : ℕ). ((CM ++ columns (code ∷ k ∷ [])) ++ (32 ∷ hex (take n reply))) ++ line-end) (sym long)
-      ∙ ap (λ (l : List ℕ). ((CM ++ columns (code ∷ length (take n reply) ∷ [])) ++ l) ++ line-end) (sym (some-reply (take n reply) (omega (arith, long))))))
+      ∙ ap (λ (l : List ℕ). ((CM ++ columns (code ∷ length (take n reply) ∷ [])) ++ l) ++ line-end) (some-bytes [] n reply fits some)))
       (length-command-line code (take n reply) (omega (arith, long))) room

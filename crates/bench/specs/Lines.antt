@@ -4,17 +4,12 @@ use mathlib.Core.Bool.{cond}
 use mathlib.Core.List.{List, [], _∷_, _++_}
 use lib.Dec.{eqb}
 use lib.ListN.{length}
-use Rattle.protocol.specs.Text.{hex, columns, line-end, numbers-line}
+use Rattle.protocol.specs.Text.{bytes-column, columns, line-end, numbers-line}
 use Rattle.protocol.specs.Records.{CM}
 
--- "lower-case hex (none if length 0)"
-abbrev pub reply-column : List ℕ → List ℕ
-reply-column [] = []
-reply-column (b ∷ bs) = 32 ∷ hex (b ∷ bs)
-
--- "for CM the length and lower-case hex"
+-- "for CM the length and lower-case hex (none if length 0)"
 unfoldable pub command-line : ℕ → List ℕ → List ℕ
-command-line code reply = ((CM ++ columns (code ∷ length reply ∷ [])) ++ reply-column reply) ++ line-end
+command-line code reply = ((CM ++ columns (code ∷ length reply ∷ [])) ++ bytes-column [] reply) ++ line-end
 
 -- "A refused EV, MD or LT prints mark and code only."
 unfoldable pub told-line : List ℕ → ℕ → List ℕ → List ℕ

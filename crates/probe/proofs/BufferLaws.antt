@@ -12,10 +12,10 @@ use lib.ListN.{length, take, drop, getD, replicate, length-take, drop-of-length-
 use lib.Seq.{drop-cons, drop-at}
 use borrow.Author.Tests.{eq-eqb, ne-eqb}
 use Rattle.wire.specs.Wire.{splice}
-use Rattle.protocol.specs.Text.{hex, column, columns, line-end}
+use Rattle.protocol.specs.Text.{column, bytes-column, columns, line-end}
 use Rattle.protocol.specs.Contracts.{Puts, PutsLine}
 use Rattle.protocol.proofs.Laws.{puts-then, puts-as, length-hex}
-use Rattle.probe.specs.Lines.{bytes-column, still, buffer-line}
+use Rattle.probe.specs.Lines.{minus, still, buffer-line}
 
 -- ---- what is still as it was
 
@@ -53,25 +53,12 @@ always-kept fill room reply fits =
 -- ---- the column of the bytes
 
 -- "`-` if there are none"
-pub no-bytes : (n : ℕ) (l : List ℕ) → n ≡ 0 → bytes-column (take n l) ≡ 32 ∷ 45 ∷ []
-no-bytes n l e = ap (λ (k : ℕ). bytes-column (take k l)) e
-
-some-column : (l : List ℕ) → 0 < length l → 32 ∷ hex l ≡ bytes-column l
-some-column [] some = absurd (omega arith)
-some-column (b ∷ bs) some = refl
-
-pub some-bytes : (n : ℕ) (l : List ℕ) → n ≤ length l → (n ≡ 0 → ⊥) → 32 ∷ hex (take n l) ≡ bytes-column (take n l)
-some-bytes n l fits some =
-    let long : length (take n l) ≡ n = rw length-take (omega arith) in
-    some-column (take n l) (omega (arith, long))
-
-pub length-bytes-column : (l : List ℕ) → length (bytes-column l) ≤ 2 + 2 * length l
-length-bytes-column [] = omega arith
-length-bytes-column (b ∷ bs) = omega (arith, length-hex (b ∷ bs))
+pub no-bytes : (n : ℕ) (l : List ℕ) → n ≡ 0 → bytes-column minus (take n l) ≡ minus
+no-bytes n l e = ap (λ (k : ℕ). bytes-column minus (take k l)) e
 
 -- ---- the line put together, each piece after the one before it
 pub buffer-put : (code n fill : ℕ) (buffer : List ℕ) {a b used h m k e bit : ℕ} {kept : Bool} {d₀ d₁ d₂ d₃ d₄ : List ℕ} → Puts used (a ∷ b ∷ columns (code ∷ n ∷ [])) d₀ d₁ h
-    → Puts h (bytes-column (take n buffer)) d₁ d₂ m → Puts m (column bit) d₂ d₃ k → bit ≡ cond kept 1 0 → kept ≡ still fill (drop n buffer) → Puts k line-end d₃ d₄ e → k < length d₀
+    → Puts h (bytes-column minus (take n buffer)) d₁ d₂ m → Puts m (column bit) d₂ d₃ k → bit ≡ cond kept 1 0 → kept ≡ still fill (drop n buffer) → Puts k line-end d₃ d₄ e → k < length d₀
     → PutsLine used (buffer-line (a ∷ b ∷ []) code n fill buffer) d₀ d₄ e
 unfolding buffer-line
 buffer-put code n fill buffer {m = m} {k = k} {d₂ = d₂} {d₃ = d₃} start bytes last eb ek end room =

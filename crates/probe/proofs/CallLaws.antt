@@ -30,18 +30,6 @@ use Rattle.probe.specs.Lines.{still, buffer-line}
 use Rattle.probe.proofs.BufferLaws.{always-kept}
 use Rattle.probe.specs.Calls.{command-call, filled, event-call, serve-new, serve-command, serve-event, serve-media, serve-line, serve-status, serve-total, serve-record}
 
--- the calls at the record's fields
-pub command-as : (bytes payload : List ℕ) (op time room : ℕ) {d : Device} {r : Answer} {before after : List ℕ}
-    → Answered (outcome (state-of d) op payload time room) d r before after → op ≡ field bytes 10 2 → payload ≡ drop 17 bytes → time ≡ field bytes 2 8
-    → room ≡ field bytes 12 2 → before ≡ filled bytes → Answered (command-call (state-of d) bytes) d r (filled bytes) after
-command-as bytes payload op time room {d} {r} {before} {after} h eo ep et er eb =
-    subst (λ (o : Outcome). Answered o d r (filled bytes) after) (λ i. outcome (state-of d) (eo i) (ep i) (et i) (er i))
-    (subst (λ (b : List ℕ). Answered (outcome (state-of d) op payload time room) d r b after) eb h)
-
-pub event-as : (bytes record' : List ℕ) (time log : ℕ) {d : Device} {r : EventAnswer} → EventDone (event-report (state-of d) time log record') d r
-    → time ≡ field bytes 2 8 → log ≡ getD bytes 10 0 → record' ≡ drop 13 bytes → EventDone (event-call (state-of d) bytes) d r
-event-as bytes record' time log {d} {r} h et el er = subst (λ (o : EventOutcome). EventDone o d r) (λ i. event-report (state-of d) (et i) (el i) (er i)) h
-
 -- a buffer of the record's room is as long as the one that was filled
 pub filled-long : (bytes buffer : List ℕ) → length buffer ≡ field bytes 12 2 → length buffer ≡ length (filled bytes)
 filled-long bytes buffer e = e ∙ sym (length-replicate (field bytes 12 2) (getD bytes 14 0))

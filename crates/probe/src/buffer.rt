@@ -4,8 +4,9 @@ ghost use mathlib.Core.Path.{_≡_};
 ghost use mathlib.Core.List.{[], _∷_};
 ghost use Prim.Native.Nat.{_+_, _≤_};
 ghost use lib.ListN.{length, take, drop, replicate};
+ghost use Rattle.protocol.specs.Text.{bytes-column};
 ghost use Rattle.protocol.specs.Contracts.{Puts, PutsLine};
-ghost use Rattle.probe.specs.Lines.{bytes-column, still, buffer-line};
+ghost use Rattle.probe.specs.Lines.{minus, still, buffer-line};
 
 // Sets every byte.
 pub(crate) fn fill(buffer: &mut [u8], byte: u8)
@@ -36,7 +37,7 @@ fn kept(buffer: &[u8], n: usize, byte: u8) -> bool
 // A column: a space and the first n bytes in hexadecimal, or a minus sign where there are none.
 fn put_some(out: &mut [u8], at: usize, bytes: &[u8], n: usize) -> usize
     requires { ⌜ (n ≤ length (now bytes)) × (n ≤ 4096) × (at + 8194 ≤ length (now out)) ⌝ }
-    ensures { λ r. ⌜ Puts at (bytes-column (take n (now (bytes .entry)))) (now (out .entry)) (now (out .exit)) r ⌝ }
+    ensures { λ r. ⌜ Puts at (bytes-column minus (take n (now (bytes .entry)))) (now (out .entry)) (now (out .exit)) r ⌝ }
 {
     if n == 0 {
         out[at] = b' ';

@@ -9,12 +9,14 @@ use Rattle.wire.specs.Wire.{field, splice}
 use Rattle.mailbox.specs.declared.device.Device.{Device}
 use Rattle.mailbox.specs.declared.device.Made.{Made}
 use Rattle.mailbox.specs.declared.device.Answer.{Answer}
+use Rattle.mailbox.specs.declared.device_calls.EventAnswer.{EventAnswer}
 use Rattle.mailbox.specs.declared.device_calls.MediaAnswer.{MediaAnswer}
 use Rattle.mailbox.specs.declared.device_calls.LineAnswer.{LineAnswer}
 use Rattle.mailbox.specs.State.{DeviceState, state-of}
 use Rattle.mailbox.specs.Outcome.{Outcome}
-use Rattle.mailbox.specs.DeviceCalls.{MakeOutcome, MediaOutcome, LineOutcome, make, media-report, line-test}
-use Rattle.mailbox.specs.Contracts.{Answered, Makes, MediaDone, LineDone}
+use Rattle.mailbox.specs.Mailbox.{outcome}
+use Rattle.mailbox.specs.DeviceCalls.{MakeOutcome, EventOutcome, MediaOutcome, LineOutcome, make, event-report, media-report, line-test}
+use Rattle.mailbox.specs.Contracts.{Answered, Makes, EventDone, MediaDone, LineDone}
 use Rattle.protocol.specs.declared.calls.Served.{Served}
 use Rattle.protocol.specs.Calls.{new-call, media-call, line-call}
 use Rattle.protocol.specs.Runs.{Printed}
@@ -23,6 +25,17 @@ use Rattle.protocol.specs.Contracts.{Serves}
 -- all that comes after the first n elements
 pub rest-of : (n : ℕ) (xs : List ℕ) → take (length xs - n) (drop n xs) ≡ drop n xs
 rest-of n xs = take-all (length xs - n) (drop n xs) (rw length-drop (omega arith))
+
+-- a command and an event report at equal arguments: what was called with, and what a record's fields say
+pub command-at : {op op' time time' room room' : ℕ} {payload payload' before before' after : List ℕ} {d : Device} {r : Answer}
+    → Answered (outcome (state-of d) op payload time room) d r before after → op ≡ op' → payload ≡ payload' → time ≡ time' → room ≡ room' → before ≡ before'
+    → Answered (outcome (state-of d) op' payload' time' room') d r before' after
+command-at {after = after} {d = d} {r = r} h eo ep et er eb =
+    subst (λ (x : Outcome × List ℕ). Answered (x .0) d r (x .1) after) (λ i. (outcome (state-of d) (eo i) (ep i) (et i) (er i), eb i)) h
+
+pub event-at : {time time' log log' : ℕ} {bytes bytes' : List ℕ} {d : Device} {r : EventAnswer} → EventDone (event-report (state-of d) time log bytes) d r
+    → time ≡ time' → log ≡ log' → bytes ≡ bytes' → EventDone (event-report (state-of d) time' log' bytes') d r
+event-at {d = d} {r = r} h et el eb = subst (λ (o : EventOutcome). EventDone o d r) (λ i. event-report (state-of d) (et i) (el i) (eb i)) h
 
 -- the calls at the record's fields
 pub make-as : (bytes : List ℕ) (v p : ℕ) {r : Made} → Makes (make v p) r → v ≡ field bytes 2 2 → p ≡ field bytes 4 2 → Makes (new-call bytes) r

@@ -14,7 +14,7 @@ use borrow.Author.Tests.{lt-ltb, le-ltb, eq-eqb, ne-eqb}
 use Rattle.io.specs.Digits.{digits, Fewest}
 use Rattle.wire.specs.Wire.{part, splice}
 use Rattle.wire.proofs.Laws.{stores, joined, part-step, part-none}
-use Rattle.protocol.specs.Text.{numeral, decimal, column, columns, hex, hex-digit, bad-line, last-line}
+use Rattle.protocol.specs.Text.{numeral, decimal, column, bytes-column, columns, hex, hex-digit, bad-line, last-line}
 use Rattle.protocol.specs.Contracts.{Puts, PutsLine}
 
 -- nothing put
@@ -183,3 +183,17 @@ pub taken-columns : (ns : List ℕ) (i : ℕ) {at r : ℕ} {before after : List 
 taken-columns ns i put fits =
     let some : length (take i ns) ≡ i = rw length-take (omega arith) in
     omega (arith, put .end, length-columns (take i ns), some)
+
+-- a column of some bytes, and how long it is at most
+some-column : (none l : List ℕ) → 0 < length l → 32 ∷ hex l ≡ bytes-column none l
+some-column none [] some = absurd (omega arith)
+some-column none (b ∷ bs) some = refl
+
+pub some-bytes : (none : List ℕ) (n : ℕ) (l : List ℕ) → n ≤ length l → (n ≡ 0 → ⊥) → 32 ∷ hex (take n l) ≡ bytes-column none (take n l)
+some-bytes none n l fits some =
+    let long : length (take n l) ≡ n = rw length-take (omega arith) in
+    some-column none (take n l) (omega (arith, long))
+
+pub length-bytes-column : (none l : List ℕ) → length (bytes-column none l) ≤ length none + 1 + 2 * length l
+length-bytes-column none [] = omega arith
+length-bytes-column none (b ∷ bs) = omega (arith, length-hex (b ∷ bs))

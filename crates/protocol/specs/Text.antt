@@ -31,6 +31,11 @@ column n = 32 ∷ decimal n
 abbrev pub line-end : List ℕ
 line-end = 10 ∷ []
 
+-- a column of bytes in hexadecimal; where there are none, another text in its place
+abbrev pub bytes-column : List ℕ → List ℕ → List ℕ
+bytes-column none [] = none
+bytes-column none (b ∷ bs) = 32 ∷ hex (b ∷ bs)
+
 -- a column for each of some numbers
 unfoldable pub columns : List ℕ → List ℕ
 columns [] = []

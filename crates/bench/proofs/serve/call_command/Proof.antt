@@ -1,8 +1,8 @@
 -- `bench::serve::call_command` meets its contract: the fields read are those of the record's bytes, and the payload is all that comes after them.
 -- Assumes nothing.
+use mathlib.Core.Path.{refl}
 use borrow.Author.Needs.{needs}
-use Rattle.protocol.proofs.Laws.{rest-of}
-use Rattle.bench.proofs.CallLaws.{command-as}
+use Rattle.protocol.proofs.Laws.{command-at, rest-of}
 use Rattle.bench.proofs.serve.call_command.Statement.{statement}
 use Rattle.bench.proofs.serve.call_command.Tie as tie
 
@@ -34,7 +34,7 @@ returns : tie.Need-returns
 returns c =
     let s = c .before .before .before .before .before .before .before .before .before in
     let bytes = s .args .bytes .now in
-    command-as bytes _ _ _ _ (c .before .before .command .ensures) (c .before .before .before .before .before .get2 .ensures .value) (rest-of 14 bytes) (c .before .before .before .before .before .before .get .ensures .value) (s .pre .2)
+    command-at (c .before .before .command .ensures) (c .before .before .before .before .before .get2 .ensures .value) (rest-of 14 bytes) (c .before .before .before .before .before .before .get .ensures .value) (s .pre .2) refl
 
 pub call-command-spec : {M : Type 1} → statement M
 call-command-spec =

@@ -2,7 +2,7 @@
 use mathlib.Core.Path.{refl}
 use borrow.Author.Needs.{needs}
 use Rattle.wire.specs.Wire.{part}
-use Rattle.bench.proofs.CallLaws.{event-as}
+use Rattle.protocol.proofs.Laws.{event-at}
 use Rattle.bench.proofs.serve.call_event.Statement.{statement}
 use Rattle.bench.proofs.serve.call_event.Tie as tie
 
@@ -26,7 +26,7 @@ event-report-requires c κs = search needs
 
 returns : tie.Need-returns
 unfolding part
-returns c = event-as (c .before .before .before .before .before .args .bytes .now) _ _ _ (c .event-report .ensures) (c .before .before .before .get .ensures .value) refl refl
+returns c = event-at (c .event-report .ensures) (c .before .before .before .get .ensures .value) refl refl
 
 pub call-event-spec : {M : Type 1} → statement M
 call-event-spec =

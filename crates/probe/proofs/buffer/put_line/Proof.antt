@@ -5,8 +5,8 @@ use borrow.Author.Needs.{needs}
 use mathlib.Core.List.{[], _∷_}
 use mathlib.Core.Path.{_≡_}
 use lib.ListN.{length, take, length-take}
-use Rattle.protocol.proofs.Laws.{length-column, length-columns}
-use Rattle.probe.proofs.BufferLaws.{length-bytes-column, buffer-put}
+use Rattle.protocol.proofs.Laws.{length-column, length-columns, length-bytes-column}
+use Rattle.probe.proofs.BufferLaws.{buffer-put}
 use Rattle.probe.proofs.buffer.put_line.Statement.{statement}
 use Rattle.probe.proofs.buffer.put_line.Tie as tie
 
@@ -16,11 +16,11 @@ columned c =
     let a = c .before .before .before .before .before .args in
     omega (arith, c .put-columns .ensures .end, length-columns (a .code ∷ a .n ∷ []))
 
-told : (c : tie.After-put-some) → c .put-some .result ≤ c .before .before .before .before .before .before .before .before .before .args .used + 8238
+told : (c : tie.After-put-some) → c .put-some .result ≤ c .before .before .before .before .before .before .before .before .before .args .used + 8239
 told c =
     let s = c .before .before .before .before .before .before .before .before .before in
     let taken : length (take (s .args .n) (s .args .buffer .now)) ≡ s .args .n = rw length-take (omega (arith, s .pre .0)) in
-    omega (arith, c .put-some .ensures .end, length-bytes-column (take (s .args .n) (s .args .buffer .now)), taken, s .pre .0, s .pre .1, columned (c .before .before .before .before))
+    omega (arith, c .put-some .ensures .end, length-bytes-column (32 ∷ 45 ∷ []) (take (s .args .n) (s .args .buffer .now)), taken, s .pre .0, s .pre .1, columned (c .before .before .before .before))
 
 -- how long the output buffer is
 wide : (c : tie.After-put-some) → c .before .before .before .before .before .before .before .before .before .args .used + 8400 ≤ length (c .put-some .last .0)

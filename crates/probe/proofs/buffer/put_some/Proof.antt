@@ -3,8 +3,8 @@ use mathlib.Core.Path.{sym}
 use native.Mathlib.Omega.{arith}
 use borrow.Author.Needs.{needs}
 use lib.ListN.{length-set}
-use Rattle.protocol.proofs.Laws.{puts-two, puts-as}
-use Rattle.probe.proofs.BufferLaws.{no-bytes, some-bytes}
+use Rattle.protocol.proofs.Laws.{puts-two, puts-as, some-bytes}
+use Rattle.probe.proofs.BufferLaws.{no-bytes}
 use Rattle.probe.proofs.buffer.put_some.Statement.{statement}
 use Rattle.probe.proofs.buffer.put_some.Tie as tie
 
@@ -37,7 +37,7 @@ same-length-2 c = search needs
 returns-2 : tie.Need-returns-2
 returns-2 c =
     let s = c .before .before .before .before .before .before .before in
-    puts-as (c .before .before .put-bytes .ensures) (some-bytes (s .args .n) (s .args .bytes .now) (s .pre .0) (c .before .before .before .before .if1 .left))
+    puts-as (c .before .before .put-bytes .ensures) (some-bytes _ (s .args .n) (s .args .bytes .now) (s .pre .0) (c .before .before .before .before .if1 .left))
 
 pub put-some-spec : {M : Type 1} → statement M
 put-some-spec =

@@ -1,12 +1,12 @@
 -- `probe::serve::call_command` meets its contract: the fields read are those of the record's bytes, the buffer is filled, and the payload is all that comes after them.
 -- Assumes nothing.
-use mathlib.Core.Path.{ap, _∙_}
+use mathlib.Core.Path.{_≡_, ap, _∙_}
 use Prim.Native.Nat.{ℕ}
 use native.Mathlib.Omega.{arith}
 use borrow.Author.Needs.{needs}
-use lib.ListN.{getD, replicate}
-use Rattle.protocol.proofs.Laws.{rest-of}
-use Rattle.probe.proofs.CallLaws.{command-as}
+use lib.ListN.{length, getD, replicate}
+use Rattle.wire.specs.Wire.{field}
+use Rattle.protocol.proofs.Laws.{command-at, rest-of}
 use Rattle.probe.proofs.serve.call_command.Statement.{statement}
 use Rattle.probe.proofs.serve.call_command.Tie as tie
 
@@ -45,8 +45,9 @@ returns c =
     let s = c .before .before .before .before .before .before .before .before .before .before .before .before .before .before in
     let bytes = s .args .bytes .now in
     let filled' = c .before .before .before .before .before .before .before .fill in
-    command-as bytes _ _ _ _ (c .before .before .command .ensures) (c .before .before .before .before .before .before .before .before .before .before .get2 .ensures .value) (rest-of 17 bytes) (c .before .before .before .before .before .before .before .before .before .before .before .get .ensures .value)
-    (omega (arith, filled' .kept .0, s .pre .2)) (filled' .ensures ∙ ap (λ (k : ℕ). replicate k (getD bytes 14 0)) (s .pre .2))
+    let room : length (filled' .last .0) ≡ field bytes 12 2 = omega (arith, filled' .kept .0, s .pre .2) in
+    command-at (c .before .before .command .ensures) (c .before .before .before .before .before .before .before .before .before .before .get2 .ensures .value) (rest-of 17 bytes) (c .before .before .before .before .before .before .before .before .before .before .before .get .ensures .value)
+    room (filled' .ensures ∙ ap (λ (k : ℕ). replicate k (getD bytes 14 0)) (s .pre .2))
 
 pub call-command-spec : {M : Type 1} → statement M
 call-command-spec =

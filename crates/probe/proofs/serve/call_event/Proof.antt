@@ -1,8 +1,7 @@
 -- `probe::serve::call_event` meets its contract: the fields read are those of the record's bytes, and the event record is all that comes after them. Assumes nothing.
 use mathlib.Core.Path.{refl}
 use borrow.Author.Needs.{needs}
-use Rattle.protocol.proofs.Laws.{rest-of}
-use Rattle.probe.proofs.CallLaws.{event-as}
+use Rattle.protocol.proofs.Laws.{event-at, rest-of}
 use Rattle.probe.proofs.serve.call_event.Statement.{statement}
 use Rattle.probe.proofs.serve.call_event.Tie as tie
 
@@ -27,7 +26,7 @@ event-report-requires c κs = search needs
 returns : tie.Need-returns
 returns c =
     let s = c .before .before .before .before .before in
-    event-as (s .args .bytes .now) _ _ _ (c .event-report .ensures) (c .before .before .before .get .ensures .value) refl (rest-of 13 (s .args .bytes .now))
+    event-at (c .event-report .ensures) (c .before .before .before .get .ensures .value) refl (rest-of 13 (s .args .bytes .now))
 
 pub call-event-spec : {M : Type 1} → statement M
 call-event-spec =
