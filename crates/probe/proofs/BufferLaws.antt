@@ -3,18 +3,18 @@
 use mathlib.Core.Path.{_≡_, refl, sym, ap, ap₂, _∙_}
 use mathlib.Core.Bool.{Bool, true, false, _&&_, cond}
 use mathlib.Core.List.{List, [], _∷_}
-use Prim.Native.Nat.{ℕ, zero, suc, _+_, _-_, _*_, _≤_, _<_}
+use Prim.Native.Nat.{ℕ, zero, suc, _+_, _-_, _≤_, _<_}
 use native.Mathlib.Numerals.{add-one}
 use native.Mathlib.Nat.{sub-zero, zero-add}
 use native.Mathlib.Omega.{arith}
 use lib.Dec.{eqb}
-use lib.ListN.{length, take, drop, getD, replicate, length-take, drop-of-length-le}
+use lib.ListN.{length, take, drop, getD, replicate, drop-of-length-le}
 use lib.Seq.{drop-cons, drop-at}
 use borrow.Author.Tests.{eq-eqb, ne-eqb}
 use Rattle.wire.specs.Wire.{splice}
 use Rattle.protocol.specs.Text.{column, bytes-column, columns, line-end}
 use Rattle.protocol.specs.Contracts.{Puts, PutsLine}
-use Rattle.protocol.proofs.Laws.{puts-then, puts-as, length-hex}
+use Rattle.protocol.proofs.Laws.{puts-then, puts-as}
 use Rattle.probe.specs.Lines.{minus, still, buffer-line}
 
 -- ---- what is still as it was

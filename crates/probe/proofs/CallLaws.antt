@@ -1,5 +1,5 @@
 -- The mailbox's answers said of a record's bytes, each answer with its line, and which of them serves a record of each mark. Assumes nothing.
-use mathlib.Core.Path.{_≡_, refl, sym, ap, ap₂, subst, _∙_}
+use mathlib.Core.Path.{_≡_, refl, sym, ap, ap₂, _∙_}
 use mathlib.Core.Bool.{Bool, true, cond}
 use mathlib.Core.List.{List, [], _∷_}
 use Prim.Native.Nat.{ℕ, _-_}
@@ -15,9 +15,7 @@ use Rattle.mailbox.specs.declared.device_calls.EventAnswer.{EventAnswer}
 use Rattle.mailbox.specs.declared.device_calls.MediaAnswer.{MediaAnswer}
 use Rattle.mailbox.specs.declared.device_calls.LineAnswer.{LineAnswer}
 use Rattle.mailbox.specs.State.{DeviceState, ValidDevice, state-of}
-use Rattle.mailbox.specs.Outcome.{Outcome}
-use Rattle.mailbox.specs.Mailbox.{outcome}
-use Rattle.mailbox.specs.DeviceCalls.{EventOutcome, event-report, event-status, damage-total}
+use Rattle.mailbox.specs.DeviceCalls.{event-status, damage-total}
 use Rattle.mailbox.specs.Contracts.{Answered, Makes, EventDone, MediaDone, LineDone, StatusGiven}
 use Rattle.poison.specs.LineTest.{answer-number, answer-type}
 use Rattle.protocol.specs.declared.calls.Served.{Served}

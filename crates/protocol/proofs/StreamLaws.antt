@@ -80,19 +80,19 @@ continues-here s input fits long =
     }
 
 -- the bytes left moved to the front, and more read after them
-pub continues-front : (s : Stream) (e : ℕ) (ended : Bool) (before between after : List ℕ) → Fits s → count-left s ≤ e → e ≤ 65536
+pub continues-front : (s : Stream) (e used : ℕ) (ended : Bool) (before between after : List ℕ) → Fits s → used ≡ 0 → count-left s ≤ e → e ≤ 65536
     → take (count-left s) between ≡ left s before → take (count-left s) after ≡ take (count-left s) between
-    → Continues s (record { at = 0; end = e; offset = s .offset; used = 0; ended = ended }) before after
+    → Continues s (record { at = 0; end = e; offset = s .offset; used = used; ended = ended }) before after
 unfolding part
-continues-front s e ended before between after fits more room moved kept =
+continues-front s e used ended before between after fits none more room moved kept =
     record {
-      fits = record { order = omega arith; input = room; output = omega arith };
+      fits = record { order = omega arith; input = room; output = omega (arith, none) };
       place = refl;
       more = omega arith;
       kept =
           let whole : e - 0 ≡ e = omega arith in
           ap (λ (k : ℕ). take (count-left s) (take k after)) whole ∙ take-take (count-left s) e after more ∙ kept ∙ moved;
-      output = inr refl;
+      output = inr none;
     }
 
 -- one place after another

@@ -24,11 +24,14 @@ pub struct Filled {
     pub ended: bool,
 }
 
-// Writes the first n bytes of the output buffer. Where that fails there is nobody to tell.
-pub fn flush(out: &[u8], n: usize)
+// Writes the first n bytes of the output buffer: how many of them are left to write then, which is none. Where a write fails there is nobody to tell. What the
+// system's call took no contract of the kit says, and so neither does this one.
+pub fn flush(out: &[u8], n: usize) -> usize
     requires { ⌜ n ≤ length (now out) ⌝ }
+    ensures { λ r. ⌜ r ≡ 0 ⌝ }
 {
     io::write_all(STDOUT_FILENO, &out[..n]);
+    0
 }
 
 // Sees to room for so many bytes more: how many bytes of the output buffer are not written then.
@@ -39,8 +42,7 @@ pub fn make_room(out: &[u8], used: usize, room: usize) -> usize
     if used + room <= 65536 {
         return used;
     }
-    flush(out, used);
-    0
+    flush(out, used)
 }
 
 // Moves the n bytes from index at on to the front.
@@ -125,14 +127,14 @@ impl Stream {
         }
         let at = self.at;
         let used = self.used;
-        flush(out, used);
+        let unwritten = flush(out, used);
         move_down(input, at, left);
         let filled = read_until(input, left, n);
         Stream {
             at: 0,
             end: filled.end,
             offset: self.offset,
-            used: 0,
+            used: unwritten,
             ended: filled.ended,
         }
     }

@@ -40,7 +40,7 @@ returns-2 c =
     let reads = got .ensures .reads in
     record {
       same =
-          continues-front (s .args .self) (got .result .end) (got .result .ended) _ _ _ (s .pre .0) (reads .more)
+          continues-front (s .args .self) (got .result .end) _ (got .result .ended) _ _ _ (s .pre .0) (c .before .before .before .before .before .before .before .before .flush .ensures) (reads .more)
           (omega (arith, reads .fits, moved .kept .0, s .pre .2)) (moved .ensures) (reads .kept);
       short = λ less. got .ensures .ended ∙ lt-ltb (got .result .end) (s .args .n) (omega (arith, less));
       idle = λ there. absurd (omega (arith, there, c .before .before .before .before .before .before .before .before .before .if1 .left));
