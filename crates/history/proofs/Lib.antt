@@ -7,6 +7,7 @@ pub mod Ran
 pub mod KeptFirst
 pub mod Computing
 pub mod Builds
+pub mod Lasting
 pub mod Views
 pub mod SomeBuild
 pub mod Cases

@@ -24,7 +24,8 @@ use Rattle.mailbox.specs.declared.device.Device.{Device}
 use Rattle.mailbox.proofs.Laws.{refusal, event-refusal, media-refusal}
 use Rattle.history.specs.Builds.{Build, Meets, RefusesAll, FixedReply, ChangesNothing, KeepsFirst, of-media}
 use Rattle.wire.proofs.Laws.{either}
-use Rattle.history.proofs.Views.{device-of, device-again, ValidView, view-valid, device-valid, make-leaves, command-leaves, event-leaves, media-leaves}
+use Rattle.history.proofs.Lasting.{valid-lasts, make-leaves, command-leaves, event-leaves, media-leaves}
+use Rattle.history.proofs.Views.{device-of, device-again, ValidView, view-valid, device-valid}
 
 -- ---- the build that answers by the definitions
 -- the device handed back: on 0000h one that stands for the view that follows, else the very one given
@@ -94,7 +95,7 @@ some-build-meets = (
         record {
           code = refl;
           next = device-again (Device.make (a .volatile) (a .persistent) .next);
-          valid = device-valid (Device.make (a .volatile) (a .persistent) .next) (make-leaves (a .volatile) (a .persistent));
+          valid = device-valid (Device.make (a .volatile) (a .persistent) .next) (make-leaves valid-lasts (a .volatile) (a .persistent));
         };
     command = λ d _ v a.
         let s = state-of d in
@@ -105,7 +106,7 @@ some-build-meets = (
           next = back-view (o .code) (o .next) d (λ f. refusal s (a .opcode) (a .payload) (a .time) (length (a .before)) f .1);
           bytes = refl;
           refused = back-same (o .code) (o .next) d;
-          valid = back-valid (o .code) (o .next) d (command-leaves s (view-valid d v) (a .opcode) (a .payload) (a .time) (length (a .before))) v;
+          valid = back-valid (o .code) (o .next) d (command-leaves valid-lasts s (view-valid d v) (a .opcode) (a .payload) (a .time) (length (a .before))) v;
         };
     event-report = λ d _ v a.
         let s = state-of d in
@@ -115,7 +116,7 @@ some-build-meets = (
           stored = refl;
           next = back-view (o .code) (o .next) d (λ f. event-refusal s (a .time) (a .log) (a .event) f .1);
           refused = back-same (o .code) (o .next) d;
-          valid = back-valid (o .code) (o .next) d (event-leaves s (view-valid d v) (a .time) (a .log) (a .event)) v;
+          valid = back-valid (o .code) (o .next) d (event-leaves valid-lasts s (view-valid d v) (a .time) (a .log) (a .event)) v;
         };
     media-report = λ d _ v a.
         let s = state-of d in
@@ -126,7 +127,7 @@ some-build-meets = (
           dropped = refl;
           next = back-view (o .code) (o .next) d (λ f. media-refusal s (a .time) (a .address) (a .lines) (a .kind) f .2);
           refused = back-same (o .code) (o .next) d;
-          valid = back-valid (o .code) (o .next) d (media-leaves s (view-valid d v) (a .time) (a .address) (a .lines) (a .kind)) v;
+          valid = back-valid (o .code) (o .next) d (media-leaves valid-lasts s (view-valid d v) (a .time) (a .address) (a .lines) (a .kind)) v;
         };
     line-test = λ d _ v a. record { code = refl; number = line-done (state-of d) (a .address) .0; kind = line-done (state-of d) (a .address) .1 };
     event-status = λ d _ v. record { bits = refl; waiting = refl; highest = refl };
