@@ -7,6 +7,7 @@ use Rattle.wire.specs.Wire.{le, field}
 use Rattle.poison.specs.Runs.{run}
 use Rattle.poison.specs.State.{Entry, entry}
 use Rattle.events.specs.Log.{log-at, handle-of}
+use Rattle.events.specs.Clear.{clear-payload}
 use Rattle.mailbox.specs.State.{DeviceState, lines-of, with-logs, with-poison}
 use Rattle.mailbox.specs.Mailbox.{outcome}
 use Rattle.mailbox.specs.DeviceCalls as Device
@@ -31,12 +32,8 @@ abbrev pub events : ℕ → List Call
 events n = replicate n event
 
 -- Clear Event Records of log 0 with flags and handles
-abbrev pub handle-bytes : List ℕ → List ℕ
-handle-bytes [] = []
-handle-bytes (h ∷ hs) = le 2 h ++ handle-bytes hs
-
 abbrev pub clear-events : ℕ → List ℕ → Call
-clear-events flags handles = send 0x0101 ((0 ∷ flags ∷ length handles ∷ 0 ∷ 0 ∷ 0 ∷ []) ++ handle-bytes handles)
+clear-events flags handles = send 0x0101 (clear-payload 0 flags handles)
 
 -- Inject Poison and Clear Poison of a line
 abbrev pub inject : ℕ → Call

@@ -18,6 +18,11 @@ number-le (suc k) n h =
     let few : n < 256 ^ k * 256 = rw pow-suc at h in
     ap (λ (x : ℕ). x * 256 + n % 256) (number-le k (n / 256) (div-lt-iff-lt-mul {k = 256} (zero-lt-suc 255) .1 few)) ∙ div-add-mod' n 256
 
+-- a number at the front of a list
+pub field-le : (k n : ℕ) (b : List ℕ) → n < 256 ^ k → field (le k n ++ b) 0 k ≡ n
+unfolding field part
+field-le k n b h = ap number (take-at (le k n) b k (length-le k n)) ∙ number-le k n h
+
 -- a part read where a splice wrote it
 pub part-written : (at : ℕ) (bs xs : List ℕ) → at + length bs ≤ length xs → part at (length bs) (splice at bs xs) ≡ bs
 unfolding part splice
@@ -30,6 +35,20 @@ part-written at bs xs h =
 pub part-front : (i k : ℕ) (a b : List ℕ) → i + k ≤ length a → part i k (a ++ b) ≡ part i k a
 unfolding part
 part-front i k a b h = ap (take k) (drop-append-le i a b (omega arith)) ∙ take-append-le k (drop i a) b (rw length-drop (omega arith))
+
+-- a part that begins past them does not see them
+part-past : (i k j : ℕ) (a b : List ℕ) → j ≡ length a + i → part j k (a ++ b) ≡ part i k b
+unfolding part
+part-past i k j a b e = ap (take k) (ap (λ (x : ℕ). drop x (a ++ b)) e ∙ drop-append-add a b i)
+
+-- the same of a field
+pub field-front : (i k : ℕ) (a b : List ℕ) → i + k ≤ length a → field (a ++ b) i k ≡ field a i k
+unfolding field
+field-front i k a b h = ap number (part-front i k a b h)
+
+pub field-past : (i k j : ℕ) (a b : List ℕ) → j ≡ length a + i → field (a ++ b) j k ≡ field b i k
+unfolding field
+field-past i k j a b e = ap number (part-past i k j a b e)
 
 part-of-front : (i k at : ℕ) (xs t : List ℕ) → i + k ≤ at → at ≤ length xs → part i k (take at xs ++ t) ≡ part i k (take at xs)
 part-of-front i k at xs t h fits = part-front i k (take at xs) t (rw length-take (omega arith))
