@@ -1,7 +1,8 @@
 //! The help pages.
 
 pub const GENERAL: &str = "\
-The independent second program, written from documents 01 and 10 alone.
+The independent second program, written from documents 00, 01 and 10 and the landed
+requests of document 02 alone.
 
   reference bench       the bench protocol: records in, a line for each out
   reference probe       the probe protocol: every call, any buffer

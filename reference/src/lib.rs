@@ -1,7 +1,7 @@
-//! The independent second program of the project, written from documents 01 and
-//! 10 alone: a model of the device, the bench and probe protocols over it, a
-//! generator of adversarial streams, a comparison with another program, and a
-//! case tool.
+//! The independent second program of the project, written from documents 00, 01
+//! and 10 and the landed requests of document 02 alone: a model of the device,
+//! the bench and probe protocols over it, a generator of adversarial streams, a
+//! comparison with another program, and a case tool.
 
 pub mod bench;
 pub mod case;

@@ -375,7 +375,7 @@ fn explanations_decode_replies() {
     for expected in [
         "line 1: new 1 0\n    success: the device is made",
         "success: the event record is stored",
-        "log 1 (Warning): flags 2 (overflow 0, more 1), 1 record\n",
+        "log 1 (Warning): flags 0 (overflow 0, more 0), 1 record\n",
         "record: handle 1, timestamp 6,",
         "log 0 (Info): 21h, vector 2, mode 1",
         "poison-entries 256",

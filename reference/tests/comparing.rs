@@ -147,8 +147,8 @@ fn profiles_reach_what_they_are_about() {
 
 fn reach(format: Format) {
     let text = |name: &str, part: usize| text(format, name, part);
-    // Overflow count ffff after the flags 03 and the zero byte.
-    assert!(text("overflow-count-limit", 0).contains(" 0300ffff"));
+    // Overflow count ffff after the flags 01 and the zero byte.
+    assert!(text("overflow-count-limit", 0).contains(" 0100ffff"));
     // Handles of both sides of 65,535 in one reply.
     let round = text("handles-come-round", 0);
     let both = |line: &str| handles(line).windows(2).any(|pair| pair == [65_535, 1]);

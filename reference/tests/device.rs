@@ -1,6 +1,7 @@
 //! The commands and calls other than the poison ones, by document 01's
-//! sentences; P1 to P6.
+//! sentences; P1 to P6; W-201 of document 02.
 
+use reference::device::events::{handles_given, more, EventLog};
 use reference::device::numbers::{opcode, Refusal};
 use reference::device::{Config, Device};
 
@@ -48,7 +49,7 @@ fn p2_eighth_event_stored_ninth_counted() {
     assert_eq!(device.event_report(0, &[9; 128], 5), Ok(false));
     let reply = get_events(&mut device, 0);
     assert_eq!(reply.len(), 32 + 8 * 128);
-    assert_eq!(reply[..4], [3, 0, 1, 0]);
+    assert_eq!(reply[..4], [1, 0, 1, 0]);
     assert_eq!(reply[20..22], [8, 0]);
 }
 
@@ -137,6 +138,105 @@ fn overflow_count_stays_at_65535() {
     assert_eq!(device.log(3).overflow_count(), 65_534);
     events(&mut device, 3, 3);
     assert_eq!(device.log(3).overflow_count(), 65_535);
+}
+
+/// W-201: "flag bit 1 of Get Event Records is now set exactly when the log holds
+/// more records than this reply carries".
+#[test]
+fn w201_more_is_set_where_more_is_held_than_carried() {
+    let set = |carried: usize| -> Vec<usize> {
+        let held = 0..=8;
+        held.filter(|held| more(*held, carried)).collect()
+    };
+    assert_eq!(set(1), [2, 3, 4, 5, 6, 7, 8]);
+    assert_eq!(set(3), [4, 5, 6, 7, 8]);
+    assert_eq!(set(7), [8]);
+    assert!(set(8).is_empty());
+    assert!(set(15).is_empty());
+}
+
+/// All of a log fits the reply, so flag bit 0 alone may be set.
+#[test]
+fn w201_more_is_clear_in_every_reply() {
+    for (reports, held, flags) in [(0, 0, 0), (1, 1, 0), (8, 8, 0), (9, 8, 1), (11, 8, 1)] {
+        let mut device = device();
+        events(&mut device, 1, reports);
+        let reply = get_events(&mut device, 1);
+        assert_eq!(reply[0], flags, "{reports} reports");
+        assert_eq!(reply[20..22], [held, 0]);
+        assert_eq!(reply.len(), 32 + 128 * usize::from(held));
+    }
+}
+
+/// W-201: "a read with More clear and then a Clear of the handles it gave, both
+/// answered Success and no call between, leave the log empty".
+fn drain(device: &mut Device, log: u8) {
+    let reply = get_events(device, log);
+    assert_eq!(reply[0] & 2, 0);
+    assert_eq!(clear(device, log, 0, &handles_given(&reply)), SUCCESS);
+    // No record, and no overflow: "If a record went, overflow count and both
+    // times become 0 (house)."
+    assert_eq!(get_events(device, log), vec![0; 32]);
+}
+
+#[test]
+fn w201_read_clear_what_was_read_and_read_again() {
+    for log in 0..5 {
+        for (reports, next) in [(0, 1), (1, 2), (8, 9), (11, 9)] {
+            let mut device = device();
+            events(&mut device, log, reports);
+            drain(&mut device, log);
+            // "Next handles go on."
+            events(&mut device, log, 1);
+            assert_eq!(handles_given(&get_events(&mut device, log)), [next]);
+            drain(&mut device, log);
+        }
+    }
+}
+
+/// "no call between": a report between the read and the clear stays, as the clear
+/// takes the n oldest.
+#[test]
+fn w201_a_report_between_read_and_clear_stays() {
+    for (reports, newer) in [(0, 1), (1, 2), (7, 8)] {
+        let mut device = device();
+        events(&mut device, 2, reports);
+        let given = handles_given(&get_events(&mut device, 2));
+        events(&mut device, 2, 1);
+        assert_eq!(clear(&mut device, 2, 0, &given), SUCCESS);
+        assert_eq!(handles_given(&get_events(&mut device, 2)), [newer]);
+        drain(&mut device, 2);
+    }
+    // With eight held it is counted, and goes with the overflow.
+    let mut device = device();
+    events(&mut device, 2, 8);
+    let given = handles_given(&get_events(&mut device, 2));
+    events(&mut device, 2, 1);
+    assert_eq!(device.log(2).overflow_count(), 1);
+    assert_eq!(clear(&mut device, 2, 0, &given), SUCCESS);
+    assert_eq!(get_events(&mut device, 2), vec![0; 32]);
+}
+
+/// The rule where fewer records than eight fit a reply: More is clear exactly in
+/// the read whose clear empties the log.
+#[test]
+fn w201_drain_in_replies_of_fewer_records() {
+    let config = Config::default();
+    for fit in [1, 3, 7, 8, 15] {
+        for held in 0..=8usize {
+            let mut log = EventLog::default();
+            for _ in 0..held {
+                assert!(log.report(&[0; 128], 0, config));
+            }
+            let rounds = held.div_ceil(fit).max(1);
+            for round in 1..=rounds {
+                let reply = log.get(fit);
+                assert_eq!(log.clear(false, &handles_given(&reply), config), Ok(()));
+                assert_eq!(reply[0], if round < rounds { 2 } else { 0 });
+                assert_eq!(log.is_empty(), round == rounds);
+            }
+        }
+    }
 }
 
 #[test]

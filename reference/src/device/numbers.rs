@@ -15,6 +15,8 @@ pub const LOGS: usize = 5;
 pub const RECORD: usize = 128;
 /// Records a log has room for.
 pub const LOG_ROOM: usize = 8;
+/// Records a Get Event Records reply has room for after its first 32 bytes.
+pub const EVENT_RECORDS: usize = (MAILBOX - 32) / RECORD;
 /// Entries the poison list has room for.
 pub const POISON_ROOM: usize = 256;
 /// Records a Get Poison List reply has room for.
