@@ -230,7 +230,7 @@ fn w201_drain_in_replies_of_fewer_records() {
             }
             let rounds = held.div_ceil(fit).max(1);
             for round in 1..=rounds {
-                let reply = log.get(fit);
+                let reply = log.get(fit, config);
                 assert_eq!(log.clear(false, &handles_given(&reply), config), Ok(()));
                 assert_eq!(reply[0], if round < rounds { 2 } else { 0 });
                 assert_eq!(log.is_empty(), round == rounds);
