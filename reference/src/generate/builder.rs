@@ -9,6 +9,14 @@ use crate::probe::record::{Record, MOST};
 use crate::probe::Probe;
 use crate::random::Random;
 
+/// The payload of Clear Event Records: "log, flags, count n (one byte each), three
+/// reserved, n handles of two bytes", the reserved bytes 0.
+pub fn clear_payload(log: u8, flags: u8, handles: &[u16]) -> Vec<u8> {
+    let mut payload = vec![log, flags, handles.len() as u8, 0, 0, 0];
+    payload.extend(handles.iter().flat_map(|handle| handle.to_le_bytes()));
+    payload
+}
+
 /// A stream under construction. Records are those of probe; in a bench stream
 /// the bench record of the same call is written.
 pub struct Builder {
@@ -84,6 +92,12 @@ impl Builder {
     /// The model's device after the records so far.
     pub fn device(&self) -> &Device {
         self.probe.device()
+    }
+
+    /// The reply that the model's device gives now; none if it refuses.
+    pub fn reply(&self, code: u16, payload: &[u8]) -> Vec<u8> {
+        let reply = self.device().clone().answer(code, payload, 0);
+        reply.unwrap_or_default()
     }
 
     /// Appends a record and runs it. Past a given limit nothing is appended.
@@ -224,12 +238,9 @@ impl Builder {
 
     /// Clear Event Records with these handles, well formed.
     pub fn clear_events(&mut self, log: u8, flags: u8, handles: &[u16]) {
-        let mut payload = vec![log, flags, handles.len() as u8];
-        let reserved = if self.random.one_in(4) { 3 } else { 0 };
-        payload.extend(self.random.bytes(reserved));
-        payload.resize(6, 0);
-        for handle in handles {
-            payload.extend(handle.to_le_bytes());
+        let mut payload = clear_payload(log, flags, handles);
+        if self.random.one_in(4) {
+            payload[3..6].copy_from_slice(&self.random.bytes(3));
         }
         self.command(opcode::CLEAR_EVENT_RECORDS, payload);
     }

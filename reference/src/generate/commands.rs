@@ -1,6 +1,6 @@
 //! Profiles about lengths, opcodes, policy, Get Log and devices.
 
-use super::builder::Builder;
+use super::builder::{clear_payload, Builder};
 use super::events::one_clear;
 use crate::device::numbers::opcode;
 use crate::device::EFFECTS_IDENTIFIER;
@@ -13,10 +13,7 @@ pub fn plausible_payload(b: &mut Builder, code: u16) -> Vec<u8> {
         opcode::GET_EVENT_RECORDS => vec![b.random.below(6) as u8],
         opcode::CLEAR_EVENT_RECORDS => {
             let log = b.random.below(5) as u8;
-            let held = b.device().log(log.into()).handles();
-            let mut payload = vec![log, 0, held.len() as u8, 0, 0, 0];
-            payload.extend(held.iter().flat_map(|handle| handle.to_le_bytes()));
-            payload
+            clear_payload(log, 0, &b.device().log(log.into()).handles())
         }
         opcode::SET_POLICY => {
             let length = b.random.pick(&[4, 5]);
@@ -62,9 +59,9 @@ pub fn wrong_lengths(b: &mut Builder) {
     for length in 6..=24 {
         for count in 0..=9 {
             let log = b.random.below(5) as u8;
-            let mut payload = vec![log, 0, count, 0, 0, 0];
             let held = b.device().log(log.into()).handles();
-            payload.extend(held.iter().flat_map(|handle| handle.to_le_bytes()));
+            let mut payload = clear_payload(log, 0, &held);
+            payload[2] = count;
             payload.resize(length, 0);
             b.command(opcode::CLEAR_EVENT_RECORDS, payload);
             b.event(log);

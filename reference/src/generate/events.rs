@@ -1,6 +1,6 @@
 //! Profiles about event logs, handles, overflow and the clock.
 
-use super::builder::Builder;
+use super::builder::{clear_payload, Builder};
 use crate::device::numbers::opcode;
 
 /// Logs filled to seven, eight and past it, read and cleared in parts.
@@ -150,20 +150,15 @@ pub fn one_clear(b: &mut Builder, log: u8) {
         11 => {
             // Also with a log that is not there: the length comes first.
             let log = b.random.pick(&[log, log, 5, 255]);
-            let mut payload = vec![log, b.random.pick(&[0, 1]), 0, 0, 0, 0];
-            payload[2] = (handles.len() as u8).wrapping_add(b.random.pick(&[1, 255]));
-            for handle in &handles {
-                payload.extend(handle.to_le_bytes());
-            }
+            let flags = b.random.pick(&[0, 1]);
+            let mut payload = clear_payload(log, flags, &handles);
+            payload[2] = payload[2].wrapping_add(b.random.pick(&[1, 255]));
             b.command(opcode::CLEAR_EVENT_RECORDS, payload);
             return;
         }
         // An odd length.
         12 => {
-            let mut payload = vec![log, 0, handles.len() as u8, 0, 0, 0];
-            for handle in &handles {
-                payload.extend(handle.to_le_bytes());
-            }
+            let mut payload = clear_payload(log, 0, &handles);
             payload.push(0);
             b.command(opcode::CLEAR_EVENT_RECORDS, payload);
             return;

@@ -83,8 +83,7 @@ pub fn fills(b: &mut Builder) {
             opcode::GET_POISON_LIST => whole_list(b),
             _ => plausible_payload(b, code),
         };
-        let reply = b.device().clone().answer(code, &payload, 0);
-        let reply = reply.unwrap_or_default();
+        let reply = b.reply(code, &payload);
         let any = b.random.bits() as u8;
         let first = reply.first().copied().unwrap_or(any);
         let last = reply.last().copied().unwrap_or(any);
