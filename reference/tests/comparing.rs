@@ -1,10 +1,14 @@
 //! The comparison: planted faults are found, a difference is reported, large
 //! streams pass through a child process, and a seed gives one stream.
 
+use reference::case::answer::answer;
 use reference::compare::{find_faults, run, Plan, Subject};
+use reference::device::numbers::opcode;
 use reference::device::Config;
 use reference::format::Format::{self, Bench, Probe};
+use reference::generate::builder::clear_payload;
 use reference::generate::{profile_named, profile_of, profiles, DEFAULT_SEEDS};
+use reference::probe::record::Record;
 use std::process::Command;
 use std::time::Duration;
 
@@ -157,6 +161,88 @@ fn reach(format: Format) {
     let malformed = profile_named(format, "malformed").unwrap();
     for part in 0..malformed.streams() {
         assert!(text("malformed", part).lines().count() < 40);
+    }
+}
+
+/// A Clear Event Records of just the handles that the last read gave.
+struct Drain {
+    log: u8,
+    handles: Vec<u16>,
+    /// The flags of the read.
+    flags: u64,
+    /// The event reports between the read and the clear.
+    reports: usize,
+    /// The return number of the clear.
+    code: u64,
+}
+
+/// The clears of what was read in the streams of a profile's default seeds.
+fn drains(format: Format, name: &str) -> Vec<Drain> {
+    let mut found = Vec::new();
+    for seed in DEFAULT_SEEDS.filter(|seed| profile_of(format, *seed).name == name) {
+        let stream = profile_of(format, seed).stream_of(format, seed, 0, None);
+        let text = String::from_utf8(format.lines_of(&stream, Config::default())).unwrap();
+        let (mut log, mut handles_read, mut flags, mut reports) = (255, vec![], 0, 0);
+        for ((_, record), line) in format.records(&stream).iter().zip(text.lines()) {
+            let answer = answer(format, record.as_ref(), line);
+            let code = answer.number("code").unwrap_or(0);
+            match record.as_ref().unwrap() {
+                Record::Event { .. } => reports += 1,
+                Record::Command {
+                    opcode: opcode::GET_EVENT_RECORDS,
+                    payload,
+                    ..
+                } if code == 0 => {
+                    (log, handles_read, reports) = (payload[0], handles(line), 0);
+                    flags = answer.number("flags").unwrap();
+                }
+                Record::Command {
+                    opcode: opcode::CLEAR_EVENT_RECORDS,
+                    payload,
+                    ..
+                } if *payload == clear_payload(log, 0, &handles_read) => found.push(Drain {
+                    log,
+                    handles: handles_read.clone(),
+                    flags,
+                    reports,
+                    code,
+                }),
+                _ => {}
+            }
+        }
+    }
+    found
+}
+
+#[test]
+fn default_seeds_drain_logs() {
+    for format in [Bench, Probe] {
+        let drains = drains(format, "drain");
+        let some = |is: &dyn Fn(&Drain) -> bool| drains.iter().any(is);
+        for log in 0..5 {
+            for flags in [0, 1] {
+                // Without a call between, and with reports that stay or, with
+                // eight held, are counted.
+                assert!(some(&|d| (d.log, d.flags, d.reports) == (log, flags, 0)));
+                assert!(some(&|d| (d.log, d.flags) == (log, flags) && d.reports > 0));
+            }
+        }
+        for held in 0..=8 {
+            assert!(some(&|d| d.handles.len() == held && d.reports == 0));
+            assert!(some(&|d| d.handles.len() == held && d.reports > 0));
+        }
+        // A clear of what was read is accepted; one refused for its room is
+        // repeated and then accepted.
+        let refused = |d: &Drain| format == Probe && d.code == 0x0100;
+        assert!(drains.iter().all(|d| d.code == 0 || refused(d)));
+        assert_eq!(some(&refused), format == Probe);
+        for pair in drains.windows(2).filter(|pair| refused(&pair[0])) {
+            assert_eq!(pair[0].handles, pair[1].handles);
+        }
+        // Handles that have come round.
+        let round = |d: &Drain| d.handles.windows(2).any(|pair| pair == [65_535, 1]);
+        let drains = self::drains(format, "handles-come-round");
+        assert!(drains.iter().any(|d| round(d) && d.code == 0));
     }
 }
 

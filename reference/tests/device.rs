@@ -4,6 +4,9 @@
 use reference::device::events::{handles_given, more, EventLog};
 use reference::device::numbers::{opcode, Refusal};
 use reference::device::{Config, Device};
+use reference::format::Format;
+use reference::generate::profile_named;
+use reference::probe::Probe;
 
 const SUCCESS: Result<Vec<u8>, Refusal> = Ok(Vec::new());
 
@@ -190,6 +193,24 @@ fn w201_read_clear_what_was_read_and_read_again() {
             events(&mut device, log, 1);
             assert_eq!(handles_given(&get_events(&mut device, log)), [next]);
             drain(&mut device, log);
+        }
+    }
+}
+
+/// It holds whatever the calls before it were: after each record of generated
+/// streams every log is drained on a copy of the device.
+#[test]
+fn w201_holds_after_generated_calls() {
+    for name in ["drain", "overflow", "wrong-handles", "everything"] {
+        let profile = profile_named(Format::Probe, name).unwrap();
+        let stream = profile.stream_of(Format::Probe, 1, 0, None);
+        let mut probe = Probe::new(Config::default());
+        for (_, record) in Format::Probe.records(&stream) {
+            probe.step(&record.unwrap());
+            let mut device = probe.device().clone();
+            for log in 0..5 {
+                drain(&mut device, log);
+            }
         }
     }
 }

@@ -1,6 +1,7 @@
 //! Profiles about event logs, handles, overflow and the clock.
 
 use super::builder::{clear_payload, Builder};
+use crate::device::events::handles_given;
 use crate::device::numbers::opcode;
 
 /// Logs filled to seven, eight and past it, read and cleared in parts.
@@ -176,12 +177,52 @@ pub fn one_clear(b: &mut Builder, log: u8) {
     b.clear_events(log, flags, &handles);
 }
 
+/// A host that drains the logs (document 02, W-201): reports to all of them, so
+/// that each holds 0 to 8 records with and without overflow, then each is drained.
+pub fn drain(b: &mut Builder) {
+    b.any_device();
+    while b.more() {
+        if b.random.one_in(3) {
+            let value = b.random.bits() >> b.random.below(64);
+            b.set_timestamp(value);
+        }
+        for log in 0..5 {
+            for _ in 0..b.random.between(0, 12) {
+                b.event(log);
+            }
+        }
+        let first = b.random.below(5) as u8;
+        for log in 0..5 {
+            drain_log(b, (first + log) % 5);
+        }
+    }
+    b.show();
+}
+
+/// Reads a log and clears the handles that the reply gave, twice, then reads it
+/// empty. Reports may come between the first read and its clear: those stored
+/// then stay, as the n oldest go, and are for the second round.
+fn drain_log(b: &mut Builder, log: u8) {
+    for reports in [b.random.pick(&[0, 0, 1, 2, 9]), 0] {
+        b.get_events(log);
+        let reply = b.reply(opcode::GET_EVENT_RECORDS, &[log]);
+        for _ in 0..reports {
+            b.event(log);
+        }
+        let payload = clear_payload(log, 0, &handles_given(&reply));
+        b.command(opcode::CLEAR_EVENT_RECORDS, payload);
+    }
+    b.get_events(log);
+}
+
 /// Handles past 65,535: eight events and a clear of the eight, until they come
-/// round; fine steps and reads where they do.
+/// round; fine steps and reads where they do, and a drain of 65,535, 1 or of what
+/// a clear of a part left of them.
 pub fn handles_come_round(b: &mut Builder) {
     b.any_device();
     let log = b.random.below(5) as u8;
     let other = (log + 1) % 5;
+    let drained = b.random.pick(&[2, 3]);
     b.set_target(75_000);
     let mut rounds = 0u64;
     while b.more() && rounds < 65_560 {
@@ -198,7 +239,9 @@ pub fn handles_come_round(b: &mut Builder) {
                 b.clear_events(log, 0, &[0]);
                 b.clear_events(log, 0, &[next]);
             }
-            if held.len() > 4 {
+            if next == drained {
+                drain_log(b, log);
+            } else if held.len() > 4 {
                 let going = b.random.pick(&[1, 2, 4]);
                 b.clear_events(log, 0, &held[..going]);
             }

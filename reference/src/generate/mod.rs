@@ -134,6 +134,11 @@ pub const PROFILES: &[Profile] = &[
         "Clear All with and without overflow, with n nonzero",
     ),
     one(
+        "drain",
+        events::drain,
+        "a host that clears what it read, with reports between the two",
+    ),
+    one(
         "clock",
         events::clock,
         "clocks that go back and times that saturate",
