@@ -375,7 +375,7 @@ fn explanations_decode_replies() {
     for expected in [
         "line 1: new 1 0\n    success: the device is made",
         "success: the event record is stored",
-        "log 1 (Warning): flags 0 (overflow 0, more 0), 1 record\n",
+        "log 1 (Warning): flags 0 (overflow 0, more 0), 1 record, no more to read\n",
         "record: handle 1, timestamp 6,",
         "log 0 (Info): 21h, vector 2, mode 1",
         "poison-entries 256",
@@ -446,6 +446,17 @@ fn explanations_of_probe_lines() {
     ];
     for (words, line, expected) in cases {
         assert_eq!(explained(&[(words, line)])[0], expected, "{words}: {line}");
+    }
+    // Flags 0 to 3 of Get Event Records: bit 1 is More.
+    for (flags, words) in [
+        (0, "overflow 0, more 0), 0 records, no more to read"),
+        (1, "overflow 1, more 0), 0 records, no more to read"),
+        (2, "overflow 0, more 1), 0 records, more to read"),
+        (3, "overflow 1, more 1), 0 records, more to read"),
+    ] {
+        let line = format!("CM 0 32 {flags:02x}{} 1", "00".repeat(31));
+        let said = &explained(&[("command get-event-records log=2", &line)])[1];
+        assert_eq!(said, &format!("log 2 (Failure): flags {flags} ({words}"));
     }
     let lines = [
         ("command fill=01 get-timestamp", "CM 0 8 0500000000000000 1"),

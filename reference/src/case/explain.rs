@@ -270,8 +270,13 @@ fn event_words(payload: &[u8], answer: &Answer, reply: &[u8], out: &mut Vec<Stri
     let field = |name: &str| answer.field(name).unwrap_or("?").to_string();
     let log = payload.first().copied().unwrap_or(255);
     let name = LOG_NAMES.get(usize::from(log)).unwrap_or(&"?");
+    // W-201: More is set where the log holds more records than the reply carries.
+    let rest = match answer.number("more") {
+        Some(0) => "no more to read",
+        _ => "more to read",
+    };
     out.push(format!(
-        "log {log} ({name}): flags {} (overflow {}, more {}), {}",
+        "log {log} ({name}): flags {} (overflow {}, more {}), {}, {rest}",
         field("flags"),
         field("overflow"),
         field("more"),
