@@ -1,4 +1,4 @@
--- P1 to P10 of document 01 hold of the definitions: one statement over the table of `specs/Cases.antt`, by computation. And calls lead from a new device to the
+-- P1 to P10 of document 01 hold of the definitions: one statement over the table of `specs/Cases.antt`, by computation; and so do the cases of W-201. And calls lead from a new device to the
 -- devices that the table starts from: `full-reached`, `last-handle-reached`. Assumes nothing.
 use mathlib.Core.Path.{_≡_, refl, sym, ap, _∙_}
 use mathlib.Core.List.{List, [], _∷_, map}
@@ -14,13 +14,18 @@ use Rattle.events.proofs.Laws.{handle-stamped, oldest-named, clear-log-taken}
 use Rattle.mailbox.specs.State.{DeviceState, with-logs}
 use Rattle.mailbox.specs.DeviceCalls as Device
 use Rattle.history.specs.Calls.{media-report, step, after}
-use Rattle.history.specs.Cases.{new-unit, event, clear-events, giving, last-handle, use-handles, injections, full, cases, given-of, stated-of, example, example-output}
+use Rattle.history.specs.Cases.{new-unit, event, clear-events, giving, last-handle, use-handles, injections, full, cases, drain-cases, given-of, stated-of, example, example-output}
 use Rattle.history.proofs.Computing.{rules}
 
 -- every row of the table: what the definitions give is what the document says
 pub cases-hold : map given-of cases ≡ map stated-of cases
 unfolding cases full rules
 cases-hold = refl
+
+-- the cases of W-201 likewise
+pub drain-cases-hold : map given-of drain-cases ≡ map stated-of drain-cases
+unfolding drain-cases rules
+drain-cases-hold = refl
 
 -- the list of 256 entries that P7 to P10 start from is the one that a report and 255 injections make of a new device
 pub full-reached : after new-unit (media-report 0 64000 3 2 ∷ injections 255) ≡ full

@@ -20,7 +20,7 @@ use Rattle.history.specs.Damage.{reports, clears, NotCleared}
 use Rattle.history.proofs.Demand3.{demand-3}
 
 -- the device of a history is the one after its calls
-device-after : (d : DeviceState) (p : Paper) (cs : List Call) → history d p cs .device ≡ after d cs
+pub device-after : (d : DeviceState) (p : Paper) (cs : List Call) → history d p cs .device ≡ after d cs
 device-after d p [] = refl
 device-after d p (c ∷ cs) = device-after (step d c .next) (write p c (step d c .code)) cs
 

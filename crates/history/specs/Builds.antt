@@ -7,7 +7,7 @@ use mathlib.Core.Path.{_≡_}
 use mathlib.Core.Bool.{Bool, true, false, _&&_, _||_}
 use mathlib.Core.List.{List, [], _∷_}
 use lib.Dec.{ltb, eqb}
-use lib.ListN.{length, take}
+use lib.ListN.{length}
 use Rattle.poison.specs.LineTest.{answer-number}
 use Rattle.events.specs.Log.{log-at}
 use Rattle.events.specs.declared.status.Status.{Status}
@@ -22,6 +22,7 @@ use Rattle.mailbox.specs.Commands.{commands, known}
 use Rattle.mailbox.specs.Mailbox.{outcome}
 use Rattle.mailbox.specs.DeviceCalls as Device
 use Rattle.mailbox.specs.Contracts.{Answered, Makes, EventDone, MediaDone, LineDone, StatusGiven}
+use Rattle.history.specs.Ran.{reply-in}
 
 -- ---- arguments. A contract speaks of every value that its function's types have: numbers of so many bits, slices of bytes in memory
 -- whether every number of a list is a byte
@@ -135,7 +136,7 @@ pub data RefusesOne (b : Build) : Type 0 where
 
 -- the reply of a command: as many bytes of the buffer after it as the answer's length says
 abbrev pub reply-of : CommandGiven → List ℕ
-reply-of g = take (g .answer .length) (g .after)
+reply-of g = reply-in (g .after) (g .answer)
 
 -- "one with a fixed reply": whatever is asked, of whatever device, a command that is answered 0000h replies the same bytes
 pub record FixedReply (b : Build) : Type 0 where

@@ -1,4 +1,5 @@
--- P1 to P10 of document 01, "Cases by number": one table of what the definitions give and what the document says, as numbers. Assumes nothing.
+-- P1 to P10 of document 01, "Cases by number": one table of what the definitions give and what the document says, as numbers; the cases of document 02's W-201
+-- likewise; and the worked example. Assumes nothing.
 use Prim.Native.Nat.{ℕ, zero, suc, _+_, _*_}
 use mathlib.Core.Bool.{Bool, false, cond}
 use mathlib.Core.List.{List, [], _∷_, _++_, map}
@@ -7,11 +8,15 @@ use Rattle.wire.specs.Wire.{le, field}
 use Rattle.poison.specs.Runs.{run}
 use Rattle.poison.specs.State.{Entry, entry}
 use Rattle.events.specs.Log.{log-at, handle-of}
+use Rattle.events.specs.Get.{reply-bytes}
 use Rattle.events.specs.Clear.{clear-payload}
+use Rattle.events.specs.Drain.{more-bit, record-count}
 use Rattle.mailbox.specs.State.{DeviceState, lines-of, with-logs, with-poison}
+use Rattle.mailbox.specs.Outcome.{Outcome}
 use Rattle.mailbox.specs.Mailbox.{outcome}
 use Rattle.mailbox.specs.DeviceCalls as Device
 use Rattle.history.specs.Calls.{Call, command, event-report, media-report, line-test, step, after}
+use Rattle.history.specs.Drain.{read, then-clear}
 
 -- a device of one unit; a reply buffer of 2,048 bytes
 abbrev pub new-unit : DeviceState
@@ -135,6 +140,36 @@ cases =
     ∷ field (outcome full 0x4300 (le 8 (lines-of full * 64) ++ le 8 0) 0 2048 .reply) 10 2
     ∷ [])
     (0 ∷ 32 ∷ 0 ∷ [])
+    ∷ []
+
+-- ---- W-201 (document 02)
+-- log 0 of a new device, read, after n events to it; and read, cleared of what that gave, after n events
+abbrev pub read-after : ℕ → Outcome
+read-after n = read (after new-unit (events n)) 0 0 2048
+
+abbrev pub drained-after : ℕ → Outcome
+drained-after n = then-clear (after new-unit (events n)) 0 0 2048 0 2048
+
+-- what a host sees of a read: the number, the flags, the overflow count, the record count and the length of the reply
+abbrev pub seen : Outcome → List ℕ
+seen o = o .code ∷ field (o .reply) 0 1 ∷ field (o .reply) 2 2 ∷ record-count (o .reply) ∷ length (o .reply) ∷ []
+
+-- More where a reply carries so many of the eight records that are held
+abbrev pub more-at : ℕ → ℕ
+more-at carried = more-bit (reply-bytes carried (log-at (after new-unit (events 8) .logs) 0))
+
+unfoldable pub drain-cases : List Case
+drain-cases =
+    -- 0, 1 and 8 held; 8 held and one more counted: only bit 0 is ever set
+    case (seen (read-after 0)) (0 ∷ 0 ∷ 0 ∷ 0 ∷ 32 ∷ [])
+    ∷ case (seen (read-after 1)) (0 ∷ 0 ∷ 0 ∷ 1 ∷ 160 ∷ [])
+    ∷ case (seen (read-after 8)) (0 ∷ 0 ∷ 0 ∷ 8 ∷ 1056 ∷ [])
+    ∷ case (seen (read-after 9)) (0 ∷ 1 ∷ 1 ∷ 8 ∷ 1056 ∷ [])
+    -- read, clear what was read, read again: nothing is held, the overflow is forgotten; the next event has the next handle
+    ∷ case (drained-after 9 .code ∷ seen (read (drained-after 9 .next) 0 0 2048)) (0 ∷ 0 ∷ 0 ∷ 0 ∷ 0 ∷ 32 ∷ [])
+    ∷ case (handles-of (after (drained-after 9 .next) (events 1))) (9 ∷ [])
+    -- the rule over the number carried: with eight held More is set below eight carried, and clear from there on
+    ∷ case (more-at 1 ∷ more-at 3 ∷ more-at 7 ∷ more-at 8 ∷ more-at 15 ∷ []) (1 ∷ 1 ∷ 1 ∷ 0 ∷ 0 ∷ [])
     ∷ []
 
 abbrev pub given-of : Case → List ℕ

@@ -5,5 +5,6 @@ pub mod Paper
 pub mod Demand3
 pub mod Damage
 pub mod Ran
+pub mod Drain
 pub mod Builds
 pub mod Cases

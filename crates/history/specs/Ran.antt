@@ -4,9 +4,11 @@ use Prim.Native.Nat.{ℕ}
 use mathlib.Core.Path.{_≡_}
 use mathlib.Core.Bool.{false}
 use mathlib.Core.List.{List, [], _∷_, _++_}
+use lib.ListN.{take}
 use Rattle.poison.specs.Paper.{Paper, blank-paper}
 use Rattle.mailbox.specs.State.{state-of}
 use Rattle.mailbox.specs.declared.device.Device.{Device}
+use Rattle.mailbox.specs.declared.device.Answer.{Answer}
 use Rattle.mailbox.specs.DeviceCalls.{make}
 use Rattle.history.specs.Calls.{Call, step}
 use Rattle.history.specs.Paper.{write}
@@ -17,6 +19,10 @@ use Rattle.history.specs.Damage.{clears}
 pub record Steps (d e : Device) (c : Call) (code : ℕ) : Type 0 where
   pub number : code ≡ step (state-of d) c .code
   pub next : state-of e ≡ step (state-of d) c .next
+
+-- the reply that a command wrote: as many bytes of the lent buffer as the answer's length says
+abbrev pub reply-in : (buffer : List ℕ) → Answer → List ℕ
+reply-in buffer answer = take (answer .length) buffer
 
 -- device d and paper w after a list of calls of the code on the device that make handed out for v and p
 pub data Ran (v p : ℕ) : List Call → Device → Paper → Type 0 where

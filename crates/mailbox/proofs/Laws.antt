@@ -8,6 +8,9 @@
 pub use Rattle.mailbox.proofs.Demand1.{refusal, event-refusal, media-refusal, line-refusal, make-refusal}
 -- Demand 1 of the code: a refused command has length 0, hands back the very same device and alters no byte of the reply buffer; the device-side calls likewise.
 pub use Rattle.mailbox.proofs.Demand1.{refusal-unaltered, event-unaltered, media-unaltered, line-unknown, make-one-unit}
+-- A command that is answered 0000h, or that the checks before its own let through, is the command of its opcode; Clear Event Records with a payload of 6 to 2,048
+-- bytes and room for every reply is let through.
+pub use Rattle.mailbox.proofs.Accepted.{admitted-runs, accepted-runs, clear-events-admitted}
 -- An address that the checks of a line do not refuse is that of a line of the device; a range that they do not refuse ends on the device.
 pub use Rattle.mailbox.proofs.Addresses.{line-inside, range-ends}
 -- A media report that its checks do not refuse is of a type of three bits and of lines of the device.

@@ -1,6 +1,7 @@
 -- The laws of crate `mailbox` that more than one proof cites, by subject. A crate above cites Laws alone.
 pub mod Replies
 pub mod AdmissionLaws
+pub mod Accepted
 pub mod EffectsLaws
 pub mod IdentityLaws
 pub mod PolicyLaws

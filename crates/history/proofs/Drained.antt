@@ -1,0 +1,151 @@
+-- The drain theorem (document 02, W-201), of the two commands and their bytes: from any device reached by calls on a new one, a read of log k with More clear and the
+-- clear of what it gave, both answered Success and no call between, leave log k with no record. Beside it: that clear is answered Success wherever its reply buffer is
+-- large enough, and More is never set on this device. Then the same of the code. Assumes nothing.
+use Prim.Native.Nat.{ℕ, _+_, _≤_, _<_}
+use mathlib.Core.Path.{_≡_, refl, sym, ap, ap₂, _∙_, subst}
+use mathlib.Core.List.{List, [], _∷_}
+use native.Mathlib.Omega.{arith}
+use lib.ListN.{length, take, drop}
+use lib.Seq.{take-at}
+use Rattle.wire.specs.Wire.{splice}
+use Rattle.events.specs.Log.{LogState, ValidState, log-at}
+use Rattle.events.specs.Get as Get
+use Rattle.events.specs.Drain.{more-bit, clear-read}
+use Rattle.events.proofs.Laws as Logs
+use Rattle.mailbox.specs.Numbers.{mailbox-size, event-records}
+use Rattle.mailbox.specs.State.{DeviceState, state-of}
+use Rattle.mailbox.specs.Outcome.{Outcome}
+use Rattle.mailbox.specs.EventCommands.{get-event-records, clear-event-records}
+use Rattle.mailbox.specs.Mailbox.{run-command, outcome}
+use Rattle.mailbox.specs.DeviceCalls as Device
+use Rattle.mailbox.specs.Contracts.{Answered}
+use Rattle.mailbox.specs.declared.device.Device.{Device}
+use Rattle.mailbox.specs.declared.device.Answer.{Answer}
+use Rattle.poison.specs.Paper.{Paper, blank-paper}
+use Rattle.mailbox.proofs.Laws.{accepted-runs, admitted-runs, clear-events-admitted}
+use Rattle.history.specs.Calls.{Call}
+use Rattle.history.specs.Drain.{reached, read, clear, then-clear}
+use Rattle.history.specs.Ran.{Ran, reply-in}
+use Rattle.history.proofs.Lasting.{Lasting, reached-holds}
+use Rattle.history.proofs.Damage.{device-after}
+use Rattle.history.proofs.Ran.{ran-history}
+
+-- ---- what lasts of each log: it is valid, and its records have 128 bytes each
+record Sound (s : LogState) : Type 0 where
+  valid : ValidState s
+  whole : Logs.Whole s
+
+sound-lasts : Lasting Sound
+sound-lasts =
+    record {
+      new = record { valid = Logs.valid-new; whole = Logs.whole-new };
+      reported = λ s r t h size. record { valid = Logs.valid-reported s r t (h .valid) size; whole = Logs.whole-reported s r t (h .whole) size };
+      cleared = λ s p h. record { valid = Logs.valid-cleared s p (h .valid); whole = Logs.whole-cleared s p (h .whole) };
+    }
+
+-- ---- two commands on a device whose log k is sound
+module _ (d : DeviceState) (k time room : ℕ) (accepted : read d k time room .code ≡ 0) where
+  -- a read that is accepted is the event layer's, and leaves the device
+  abbrev given : Get.GetOutcome
+  given = Get.get-event-records event-records (d .logs) k
+
+  read-is : read d k time room ≡ record { code = given .code; reply = given .reply; next = d }
+  unfolding run-command get-event-records
+  read-is = accepted-runs d 0x0100 (k ∷ []) time room accepted
+
+  right : given .code ≡ 0
+  right = sym (ap (λ (o : Outcome). o .code) read-is) ∙ accepted
+
+  -- the log that it read is one of the five
+  one-of-five : k < 5
+  one-of-five = Logs.read-log event-records (d .logs) k right .0
+
+  module _ (sound : Sound (log-at (d .logs) k)) where
+    bit-clear : more-bit (read d k time room .reply) ≡ 0
+    bit-clear = rw read-is (Logs.bit-never-set event-records (d .logs) k (sound .valid) right (omega arith))
+
+    module _ (t r : ℕ) where
+      -- the clear of what it gave is the event layer's too, where it is let through
+      answered : mailbox-size ≤ r → then-clear d k time room t r .code ≡ 0
+      unfolding run-command clear-event-records
+      answered fits =
+          let size = Logs.clear-length event-records (d .logs) k (sound .valid) right (sound .whole) in
+          let admitted = clear-events-admitted (length (clear-read k (given .reply))) r fits (size .0) (omega (arith, size .1)) in
+          rw (read-is, admitted-runs d 0x0101 (clear-read k (given .reply)) t r admitted)
+          (Logs.clear-answered event-records (d .logs) k (sound .valid) right (sound .whole))
+
+      empty : more-bit (read d k time room .reply) ≡ 0 → then-clear d k time room t r .code ≡ 0 → log-at (then-clear d k time room t r .next .logs) k .held ≡ []
+      unfolding run-command clear-event-records
+      empty bit e =
+          let z : clear d k (given .reply) t r .code ≡ 0 = rw read-is at e in
+          rw (read-is, accepted-runs d 0x0101 (clear-read k (given .reply)) t r z)
+          (Logs.clear-drains event-records (d .logs) k (sound .valid) right (sound .whole) (rw read-is at bit))
+
+-- ---- from any device reached by calls on a new one
+sound-reached : (v p : ℕ) (calls : List Call) (k : ℕ) → k < 5 → Sound (log-at (reached v p calls .logs) k)
+sound-reached v p calls k five = reached-holds sound-lasts v p calls .logs k five
+
+-- The drain theorem: a read of log k answered Success with bit 1 of its reply's byte 0 clear, and then the clear made from that reply alone, answered Success, leave
+-- log k with no record.
+pub drained : (v p : ℕ) (calls : List Call) (k time room t r : ℕ)
+    → read (reached v p calls) k time room .code ≡ 0
+    → more-bit (read (reached v p calls) k time room .reply) ≡ 0
+    → then-clear (reached v p calls) k time room t r .code ≡ 0
+    → log-at (then-clear (reached v p calls) k time room t r .next .logs) k .held ≡ []
+drained v p calls k time room t r accepted =
+    empty (reached v p calls) k time room accepted (sound-reached v p calls k (one-of-five (reached v p calls) k time room accepted)) t r
+
+-- That clear is answered Success wherever its reply buffer is large enough (whether More is set or not).
+pub clear-accepted : (v p : ℕ) (calls : List Call) (k time room t r : ℕ)
+    → read (reached v p calls) k time room .code ≡ 0 → mailbox-size ≤ r → then-clear (reached v p calls) k time room t r .code ≡ 0
+clear-accepted v p calls k time room t r accepted =
+    answered (reached v p calls) k time room accepted (sound-reached v p calls k (one-of-five (reached v p calls) k time room accepted)) t r
+
+-- A reply carries up to 15 records, and a log holds at most eight: More is never set.
+pub more-never-set : (v p : ℕ) (calls : List Call) (k time room : ℕ)
+    → read (reached v p calls) k time room .code ≡ 0 → more-bit (read (reached v p calls) k time room .reply) ≡ 0
+more-never-set v p calls k time room accepted =
+    bit-clear (reached v p calls) k time room accepted (sound-reached v p calls k (one-of-five (reached v p calls) k time room accepted))
+
+-- ---- the same of the code
+-- the bytes that the code wrote are the definitions' reply
+reply-read : (o : Outcome) (d : Device) (a : Answer) (before after : List ℕ) → Answered o d a before after → reply-in after a ≡ o .reply
+unfolding splice
+reply-read o d a before after answered =
+    ap₂ take (answered .size) (answered .bytes) ∙ take-at (o .reply) (drop (0 + length (o .reply)) before) (length (o .reply)) refl
+
+-- A run of the code, and then a call of `command` that reads log k and is answered Success; `after` is what the lent buffer then holds.
+module _ (v p : ℕ) (cs : List Call) (d : Device) (w : Paper) (ran : Ran v p cs d w) (k time : ℕ) (before after : List ℕ) (a : Answer)
+    (asked : Answered (outcome (state-of d) 0x0100 (k ∷ []) time (length before)) d a before after) (success : a .code ≡ 0) where
+  accepted : read (state-of d) k time (length before) .code ≡ 0
+  accepted = sym (asked .code) ∙ success
+
+  reply-is : reply-in after a ≡ read (state-of d) k time (length before) .reply
+  reply-is = reply-read (outcome (state-of d) 0x0100 (k ∷ []) time (length before)) d a before after asked
+
+  sound-ran : Sound (log-at (state-of d .logs) k)
+  sound-ran =
+      let e : state-of d ≡ reached v p cs = ran-history v p cs d w ran .0 ∙ device-after (Device.make v p .next) blank-paper cs in
+      subst (λ (s : DeviceState). Sound (log-at (s .logs) k)) (sym e) (sound-reached v p cs k (one-of-five (state-of d) k time (length before) accepted))
+
+  -- More is clear in the buffer.
+  pub code-more-never-set : more-bit (reply-in after a) ≡ 0
+  code-more-never-set = rw reply-is (bit-clear (state-of d) k time (length before) accepted sound-ran)
+
+  -- Then a call of `command` on the device handed back, with the payload made from that buffer.
+  module _ (t : ℕ) (room rest : List ℕ) (b : Answer)
+      (sent : Answered (outcome (state-of (a .device)) 0x0101 (clear-read k (reply-in after a)) t (length room)) (a .device) b room rest) where
+    cleared : outcome (state-of (a .device)) 0x0101 (clear-read k (reply-in after a)) t (length room) ≡ then-clear (state-of d) k time (length before) t (length room)
+    cleared = rw (asked .next, reply-is)
+
+    -- It is answered Success wherever its buffer is large enough,
+    pub code-clear-accepted : mailbox-size ≤ length room → b .code ≡ 0
+    code-clear-accepted fits =
+        sent .code ∙ ap (λ (o : Outcome). o .code) cleared ∙ answered (state-of d) k time (length before) accepted sound-ran t (length room) fits
+
+    -- and after a read with More clear, answered Success, it hands back a device whose log k holds no record.
+    pub code-drained : more-bit (reply-in after a) ≡ 0 → b .code ≡ 0 → log-at (state-of (b .device) .logs) k .held ≡ []
+    code-drained bit done =
+        ap (λ (s : DeviceState). log-at (s .logs) k .held) (sent .next ∙ ap (λ (o : Outcome). o .next) cleared)
+        ∙ empty (state-of d) k time (length before) accepted sound-ran t (length room) (ap more-bit (sym reply-is) ∙ bit)
+        (sym (ap (λ (o : Outcome). o .code) cleared) ∙ sym (sent .code) ∙ done)
