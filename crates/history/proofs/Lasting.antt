@@ -1,4 +1,4 @@
--- What every call keeps of a device: its number of units, valid entries, and of each log whatever a report and a clear of one log keep. So a property of one log
+-- What every call keeps of a device: 1 to 1,023 units, valid entries, and of each log whatever a report and a clear of one log keep. So a property of one log
 -- that lasts holds of each log of every device that calls lead to from a new one (`reached-holds`). Assumes nothing.
 use Prim.Native.Nat.{ℕ, zero, suc, _+_, _≤_, _<_}
 use mathlib.Core.Path.{_≡_, refl}
