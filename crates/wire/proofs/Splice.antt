@@ -1,5 +1,5 @@
--- Reading after a splice, over any width and offset: what was written is read back, and what lies elsewhere is as before.
--- Assumes nothing.
+-- Reading after a splice, over any width and offset: what was written is read back, and what lies elsewhere is as before. And in one list appended to another: each
+-- is read as it is by itself. Assumes nothing.
 use mathlib.Core.Path.{_≡_, refl, sym, ap, _∙_}
 use mathlib.Core.List.{List, _++_, append-assoc}
 use Prim.Native.Nat.{ℕ, zero, suc, _+_, _-_, _*_, _/_, _%_, _^_, _≤_, _<_}
