@@ -62,24 +62,24 @@ module _ (d : DeviceState) (k time room : ℕ) (accepted : read d k time room .c
 
   module _ (sound : Sound (log-at (d .logs) k)) where
     bit-clear : more-bit (read d k time room .reply) ≡ 0
-    bit-clear = rw read-is (Logs.bit-never-set event-records (d .logs) k (sound .valid) right (omega arith))
+    bit-clear = rw read-is (Logs.bit-never-set event-records (d .logs) k right (sound .valid) (omega arith))
 
     module _ (t r : ℕ) where
       -- the clear of what it gave is the event layer's too, where it is let through
       answered : mailbox-size ≤ r → then-clear d k time room t r .code ≡ 0
       unfolding run-command clear-event-records
       answered fits =
-          let size = Logs.clear-length event-records (d .logs) k (sound .valid) right (sound .whole) in
+          let size = Logs.clear-length event-records (d .logs) k right (sound .valid) (sound .whole) in
           let admitted = clear-events-admitted (length (clear-read k (given .reply))) r fits (size .0) (omega (arith, size .1)) in
           rw (read-is, admitted-runs d 0x0101 (clear-read k (given .reply)) t r admitted)
-          (Logs.clear-answered event-records (d .logs) k (sound .valid) right (sound .whole))
+          (Logs.clear-answered event-records (d .logs) k right (sound .valid) (sound .whole))
 
       empty : more-bit (read d k time room .reply) ≡ 0 → then-clear d k time room t r .code ≡ 0 → log-at (then-clear d k time room t r .next .logs) k .held ≡ []
       unfolding run-command clear-event-records
       empty bit e =
           let z : clear d k (given .reply) t r .code ≡ 0 = rw read-is at e in
           rw (read-is, accepted-runs d 0x0101 (clear-read k (given .reply)) t r z)
-          (Logs.clear-drains event-records (d .logs) k (sound .valid) right (sound .whole) (rw read-is at bit))
+          (Logs.clear-drains event-records (d .logs) k right (sound .valid) (sound .whole) (rw read-is at bit))
 
 -- ---- from any device reached by calls on a new one
 sound-reached : (v p : ℕ) (calls : List Call) (k : ℕ) → k < 5 → Sound (log-at (reached v p calls .logs) k)
