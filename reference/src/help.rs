@@ -128,7 +128,7 @@ faults that the seeds find and M those that they do not.
 
   --program PATH     a path, or a path and arguments with blanks between them
   --format F         bench (so if not given) or probe
-  --seeds A..B       the seeds from A to B - 1 (0..208), or one seed: --seeds A
+  --seeds A..B       the seeds from A to B - 1 (0..210), or one seed: --seeds A
   --profile P        this profile for all seeds, not the one that a seed chooses
   --all              prints the first difference of every stream, not of one
   --timeout SECONDS  for each stream (60)

@@ -292,7 +292,7 @@ pub const PROBE_PROFILES: &[Profile] = &[
 /// Seeds `compare` runs where none are given: two rounds of [`SEED_ROUND`].
 pub const DEFAULT_SEEDS: std::ops::Range<u64> = 0..2 * SEED_ROUND;
 /// Each large profile is chosen by one seed of a round.
-const SEED_ROUND: u64 = 104;
+const SEED_ROUND: u64 = 105;
 
 /// Every profile of a format.
 pub fn profiles(format: Format) -> Vec<&'static Profile> {
