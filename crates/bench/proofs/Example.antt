@@ -9,7 +9,7 @@ use Rattle.protocol.specs.Text.{numeral, columns, hex, bad-line, last-line}
 use Rattle.protocol.specs.Records.{whole, tells, front-size}
 use Rattle.protocol.specs.Runs.{reading}
 use Rattle.protocol.proofs.Laws.{printed}
-use Rattle.protocol.specs.Formats.{bench-fixed, bench-size, fixed, size}
+use Rattle.protocol.specs.Formats.{bench-fixed, bench-size, fixed, head, size}
 use Rattle.bench.specs.Lines.{command-line, told-line}
 use Rattle.bench.specs.Calls.{first-record, serve-command, serve-event, serve-media, serve-line, serve-record, bench}
 
@@ -41,5 +41,5 @@ output =
 
 -- the definitions give the document's output
 example : program 10 input ≡ output
-unfolding program printed input output rules numeral columns hex bad-line last-line whole tells front-size fixed size bench-fixed bench-size command-line told-line first-record serve-command serve-event serve-media serve-line serve-record
+unfolding program printed input output rules numeral columns hex bad-line last-line whole tells front-size fixed head size bench-fixed bench-size command-line told-line first-record serve-command serve-event serve-media serve-line serve-record
 example = refl

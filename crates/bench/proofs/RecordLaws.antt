@@ -8,7 +8,7 @@ use lib.ListN.{length}
 use borrow.Author.Tests.{ne-eqb}
 use Rattle.protocol.specs.declared.formats.Format.the-variants.{Bench}
 use Rattle.protocol.specs.Records.{mark-of, CM, EV, MD, LT, front-size, OneRecord}
-use Rattle.protocol.specs.Formats.{bench-fixed, fixed, size}
+use Rattle.protocol.specs.Formats.{bench-fixed, fixed, head, size}
 use Rattle.protocol.specs.Runs.{reading}
 use Rattle.protocol.proofs.Laws.{new-there, fields-there, bench-marks}
 use Rattle.bench.specs.Calls.{bench}
@@ -19,8 +19,8 @@ new-long offset r e this = new-there Bench r (subst (λ (o : ℕ). OneRecord (re
 
 -- a later one
 module _ (offset : ℕ) (r : List ℕ) (some : 0 < offset) (this : OneRecord (reading bench offset) r) where
-  later : OneRecord (front-size (fixed Bench false) (size Bench)) r
-  later = subst (λ (t : Bool). OneRecord (front-size (fixed Bench t) (size Bench)) r) (ne-eqb offset 0 (λ e. omega (arith, e, some))) this
+  later : OneRecord (front-size (fixed Bench false) (head Bench) (size Bench)) r
+  later = subst (λ (t : Bool). OneRecord (front-size (fixed Bench t) (head Bench) (size Bench)) r) (ne-eqb offset 0 (λ e. omega (arith, e, some))) this
 
   pub command-long : mark-of r ≡ mark-of CM → 14 ≤ length r
   unfolding fixed bench-fixed

@@ -13,7 +13,7 @@ use Rattle.mailbox.specs.DeviceCalls.{EventOutcome, event-report}
 use Rattle.protocol.specs.declared.formats.Format.the-variants.{Bench}
 use Rattle.protocol.specs.Text.{numbers-line}
 use Rattle.protocol.specs.Records.{mark-of, NW, CM, EV, MD, LT}
-use Rattle.protocol.specs.Formats.{fixed, size}
+use Rattle.protocol.specs.Formats.{fixed, head, size}
 use Rattle.protocol.specs.Calls.{new-call, media-call, line-call}
 use Rattle.protocol.specs.Runs.{Printed, Program}
 use Rattle.bench.specs.Lines.{command-line, told-line}
@@ -56,4 +56,4 @@ serve-record d r =
 
 -- the program after the first record
 abbrev pub bench : Program DeviceState
-bench = record { fixed = fixed Bench; size = size Bench; serve = serve-record }
+bench = record { fixed = fixed Bench; head = head Bench; size = size Bench; serve = serve-record }

@@ -9,7 +9,7 @@ use Rattle.mailbox.specs.DeviceCalls.{new-device}
 use Rattle.mailbox.proofs.Laws.{rules}
 use Rattle.protocol.specs.Text.{numeral, columns, hex, bad-line, last-line}
 use Rattle.protocol.specs.Records.{whole, tells, front-size}
-use Rattle.protocol.specs.Formats.{probe-least, probe-fixed, probe-size, fixed, size}
+use Rattle.protocol.specs.Formats.{probe-least, probe-fixed, probe-size, fixed, head, size}
 use Rattle.protocol.proofs.Laws.{printed}
 use Rattle.probe.specs.Lines.{still, buffer-line}
 use Rattle.probe.specs.Calls.{serve-new, serve-command, serve-event, serve-media, serve-line, serve-status, serve-total, serve-record, probe}
@@ -51,5 +51,5 @@ output =
 
 -- the definitions give these lines
 example : printed probe 20 (new-device 1 0) 0 input ≡ output
-unfolding printed input output rules numeral columns hex bad-line last-line whole tells front-size fixed size probe-least probe-fixed probe-size still buffer-line serve-new serve-command serve-event serve-media serve-line serve-status serve-total serve-record
+unfolding printed input output rules numeral columns hex bad-line last-line whole tells front-size fixed head size probe-least probe-fixed probe-size still buffer-line serve-new serve-command serve-event serve-media serve-line serve-status serve-total serve-record
 example = refl

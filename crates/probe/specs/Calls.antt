@@ -13,7 +13,7 @@ use Rattle.mailbox.specs.DeviceCalls.{EventOutcome, event-report, event-status,
 use Rattle.protocol.specs.declared.formats.Format.the-variants.{Probe}
 use Rattle.protocol.specs.Text.{numbers-line}
 use Rattle.protocol.specs.Records.{mark-of, NW, CM, EV, MD, LT, ES, DT}
-use Rattle.protocol.specs.Formats.{fixed, size}
+use Rattle.protocol.specs.Formats.{fixed, head, size}
 use Rattle.protocol.specs.Calls.{new-call, media-call, line-call}
 use Rattle.protocol.specs.Runs.{Printed, Program}
 use Rattle.probe.specs.Lines.{buffer-line}
@@ -73,4 +73,4 @@ serve-record d r =
 
 -- the program
 abbrev pub probe : Program DeviceState
-probe = record { fixed = fixed Probe; size = size Probe; serve = serve-record }
+probe = record { fixed = fixed Probe; head = head Probe; size = size Probe; serve = serve-record }

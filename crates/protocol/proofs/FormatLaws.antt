@@ -1,23 +1,22 @@
--- The sizes of the records of both programs: each fixed part by its mark, the whole record by its fixed part, how far both go, and what is known of a record
+-- The sizes of the records of both programs: each fixed part by its mark, the head by its fixed part, the whole record by its head, how far they go, and what is known of a record
 -- found. Assumes nothing.
-use mathlib.Core.Path.{_≡_, refl, sym, ap, ap₂, subst, _∙_}
+use mathlib.Core.Path.{_≡_, refl, sym, ap, subst, _∙_}
 use mathlib.Core.Bool.{Bool, true, false, _&&_}
 use mathlib.Core.List.{List}
-use Prim.Native.Nat.{ℕ, _+_, _*_, _≤_, _<_}
+use Prim.Native.Nat.{ℕ, _+_, _≤_, _<_}
 use native.Mathlib.Decide.{decLe, ℕ-discrete}
 use native.Mathlib.Omega.{arith}
 use lib.Dec.{eqb, leb, lit≤}
-use lib.ListN.{length, take}
-use lib.Seq.{getD-take}
+use lib.ListN.{length, take, length-take}
 use borrow.Author.Tests.{eq-eqb, ne-eqb, le-leb, lt-leb}
 use Rattle.wire.specs.Wire.{field}
 use Rattle.wire.proofs.Laws.{either}
 use Rattle.protocol.specs.declared.formats.Format.{Format}
 use Rattle.protocol.specs.declared.formats.Format.the-variants.{Bench, Probe}
-use Rattle.protocol.specs.Records.{mark-of, NW, CM, EV, MD, LT, ES, DT, front-size, OneRecord}
-use Rattle.protocol.specs.Formats.{bench-fixed, bench-size, probe-least, probe-fixed, within, probe-size, fixed, size, Head}
+use Rattle.protocol.specs.Records.{mark-of, NW, CM, EV, MD, LT, ES, DT, front-fixed, front-head, front-size, OneRecord}
+use Rattle.protocol.specs.Formats.{bench-fixed, bench-size, probe-least, probe-fixed, within, probe-size, fixed, head, size, Head}
 use Rattle.protocol.proofs.StreamLaws.{field-front}
-use Rattle.protocol.proofs.RecordLaws.{Sized, fixed-part, mark-there}
+use Rattle.protocol.proofs.RecordLaws.{mark-front, Sized, Parts, fixed-part, head-part, parts, mark-there}
 
 -- ---- fixed parts
 
@@ -98,18 +97,7 @@ fixed-fields f true m may = subst (λ (k : ℕ). fixed f false k ≤ fixed f tru
     new Bench = lit≤ tt
     new Probe = lit≤ tt
 
--- bytes found, as many as the fixed part of their mark has
-pub head-of : (f : Format) (first : Bool) (h : List ℕ) (m n : ℕ) → n ≡ fixed f first m → (n ≡ 0 → ⊥) → length h ≡ n → mark-of h ≡ m → Head f h
-head-of f first h m n e may long same =
-    let may' : fixed f first m ≡ 0 → ⊥ = λ z. may (e ∙ z) in
-    let good = fixed-good f first m in
-    record {
-      marked = omega (arith, long, e, good .0 may');
-      fields = omega (arith, long, e, fixed-fields f first m may', ap (fixed f false) same);
-      most = omega (arith, long, e, good .1);
-    }
-
--- such bytes of some mark have its fields
+-- a head of some mark has its fields
 pub head-long : (f : Format) (h : List ℕ) (m : ℕ) → Head f h → mark-of h ≡ m → fixed f false m ≤ length h
 head-long f h m head e = subst (λ (k : ℕ). fixed f false k ≤ length h) e (head .fields)
 
@@ -191,41 +179,77 @@ module _ (h : List ℕ) where
       either Headed (eqb (mark-of h) (mark-of CM)) (either Headed (within (field h 12 2) && within (field h 15 2)) (longer (field h 15 2)) over)
       (either Headed (eqb (mark-of h) (mark-of EV)) (either Headed (within (field h 11 2)) (longer (field h 11 2)) over) alone)
 
--- the sizes of either: a fixed part holds the mark, and a record its fixed part
-pub sized : (f : Format) (first : Bool) → Sized (fixed f first) (size f)
-sized f first = record { marked = λ m. fixed-good f first m .0; headed = λ h. size-headed h f }
+-- a head holds the fixed part that tells of it, and no more than 139 bytes
+head-headed : (f : Format) (h : List ℕ) → Headed h (head f h)
+unfolding head
+head-headed Bench h = alone h
+head-headed Probe h = alone h
+
+head-most : (f : Format) (h : List ℕ) → length h ≤ 139 → head f h ≤ 139
+unfolding head
+head-most Bench h few = few
+head-most Probe h few = few
+
+-- the sizes of either: a fixed part holds the mark, a head its fixed part, and a record its head
+pub sized : (f : Format) (first : Bool) → Sized (fixed f first) (head f) (size f)
+sized f first = record { marked = λ m. fixed-good f first m .0; headed = head-headed f; sized = λ h. size-headed h f }
+
+-- a fixed part found, and a head found
+pub fixed-of : (f : Format) (first : Bool) (h : List ℕ) → OneRecord (front-fixed (fixed f first)) h → Head f h
+fixed-of f first h this =
+    let told = fixed-part (fixed f first) (head f) (size f) (sized f first) h this in
+    let good = fixed-good f first (mark-of h) in
+    record { marked = omega (arith, told .1, good .0 (told .0)); fields = omega (arith, told .1, fixed-fields f first (mark-of h) (told .0)); most = omega (arith, told .1, good .1) }
+
+pub head-of : (f : Format) (first : Bool) (h : List ℕ) → OneRecord (front-head (fixed f first) (head f)) h → Head f h
+head-of f first h this =
+    let told = head-part (fixed f first) (head f) (size f) (sized f first) h this in
+    let n = fixed f first (mark-of h) in
+    let good = fixed-good f first (mark-of h) in
+    let long : length (take n h) ≡ n = rw length-take (omega (arith, told .1)) in
+    record {
+      marked = omega (arith, told .1, good .0 (told .0));
+      fields = omega (arith, told .1, fixed-fields f first (mark-of h) (told .0));
+      most = omega (arith, told .2, head-most f (take n h) (omega (arith, long, good .1)));
+    }
+
+-- the parts of a record that was found
+pub found-parts : (f : Format) (first : Bool) (r : List ℕ) → OneRecord (front-size (fixed f first) (head f) (size f)) r → Parts (fixed f first) (head f) (size f) r
+found-parts f first = parts (fixed f first) (head f) (size f) (sized f first)
 
 -- a first record that was found is a make, with its fields
-pub first-make : (f : Format) (r : List ℕ) → OneRecord (front-size (fixed f true) (size f)) r → mark-of r ≡ mark-of NW
-first-make f r this = first-new f (mark-of r) (fixed-part (fixed f true) (size f) (sized f true) r this .0)
+pub first-make : (f : Format) (r : List ℕ) → OneRecord (front-size (fixed f true) (head f) (size f)) r → mark-of r ≡ mark-of NW
+first-make f r this = first-new f (mark-of r) (found-parts f true r this .may)
 
-pub new-there : (f : Format) (r : List ℕ) → OneRecord (front-size (fixed f true) (size f)) r → 6 ≤ length r
-new-there f r this = omega (arith, fixed-part (fixed f true) (size f) (sized f true) r this .1, fixed-new f, ap (fixed f true) (first-make f r this))
+pub new-there : (f : Format) (r : List ℕ) → OneRecord (front-size (fixed f true) (head f) (size f)) r → 6 ≤ length r
+new-there f r this =
+    let part = found-parts f true r this in
+    omega (arith, part .fields, part .inside, fixed-new f, ap (fixed f true) (first-make f r this))
 
 -- any record that was found has the fields of its mark
-pub fields-there : (f : Format) (first : Bool) (r : List ℕ) → OneRecord (front-size (fixed f first) (size f)) r → (m : ℕ) → mark-of r ≡ m → fixed f false m ≤ length r
+pub fields-there : (f : Format) (first : Bool) (r : List ℕ) → OneRecord (front-size (fixed f first) (head f) (size f)) r → (m : ℕ) → mark-of r ≡ m → fixed f false m ≤ length r
 fields-there f first r this m e =
-    let part = fixed-part (fixed f first) (size f) (sized f first) r this in
-    omega (arith, part .1, fixed-fields f first (mark-of r) (part .0), ap (fixed f false) e)
+    let part = found-parts f first r this in
+    omega (arith, part .fields, part .inside, fixed-fields f first (mark-of r) (part .may), ap (fixed f false) e)
 
 -- no later record of `bench` has another mark
-pub bench-marks : (r : List ℕ) → OneRecord (front-size (fixed Bench false) (size Bench)) r
+pub bench-marks : (r : List ℕ) → OneRecord (front-size (fixed Bench false) (head Bench) (size Bench)) r
     → (mark-of r ≡ mark-of CM → ⊥) → (mark-of r ≡ mark-of EV → ⊥) → (mark-of r ≡ mark-of MD → ⊥) → (mark-of r ≡ mark-of LT → ⊥) → ⊥
 unfolding fixed
-bench-marks r this c v d l = fixed-part (fixed Bench false) (size Bench) (sized Bench false) r this .0 (sym (bench-none (mark-of r) c v d l))
+bench-marks r this c v d l = found-parts Bench false r this .may (sym (bench-none (mark-of r) c v d l))
 
 -- a record of `probe` has its mark and its fields, and a command's room is within its limit
-pub ready : (first : Bool) (r : List ℕ) → OneRecord (front-size (fixed Probe first) (size Probe)) r
+pub ready : (first : Bool) (r : List ℕ) → OneRecord (front-size (fixed Probe first) (head Probe) (size Probe)) r
     → (2 ≤ length r) × (probe-least (mark-of r) ≤ length r) × (mark-of r ≡ mark-of CM → field r 12 2 ≤ 4096)
 unfolding fixed size probe-fixed probe-least
-ready first r this = (mark-there (fixed Probe first) (size Probe) (sized Probe first) r this, fields-there Probe first r this (mark-of r) refl, room)
+ready first r this = (mark-there (fixed Probe first) (head Probe) (size Probe) (sized Probe first) r this, fields-there Probe first r this (mark-of r) refl, room)
   where
     room : mark-of r ≡ mark-of CM → field r 12 2 ≤ 4096
     room command =
-        let part = fixed-part (fixed Probe first) (size Probe) (sized Probe first) r this in
-        let n = fixed Probe first (mark-of r) in
-        let wide : 17 ≤ n = subst (λ (m : ℕ). fixed Probe false m ≤ n) command (fixed-fields Probe first (mark-of r) (part .0)) in
-        let head = take n r in
-        let letters : mark-of head ≡ mark-of r = ap₂ (λ (a b : ℕ). a * 256 + b) (getD-take n r 0 0 (omega arith)) (getD-take n r 1 0 (omega arith)) in
-        let few : field head 12 2 ≤ 4096 = room-within head (letters ∙ command) (λ e. omega (arith, e, part .2, this .some)) in
-        omega (arith, few, field-front n 12 2 r head refl (omega arith) (part .1))
+        let part = found-parts Probe first r this in
+        let n = part .count in
+        let wide : 17 ≤ fixed Probe first (mark-of r) = subst (λ (m : ℕ). fixed Probe false m ≤ fixed Probe first (mark-of r)) command (fixed-fields Probe first (mark-of r) (part .may)) in
+        let h = take n r in
+        let letters : mark-of h ≡ mark-of r = mark-front n r (omega (arith, part .fields)) in
+        let few : field h 12 2 ≤ 4096 = room-within h (letters ∙ command) (λ e. omega (arith, e, part .all, this .some)) in
+        omega (arith, few, field-front n 12 2 r h refl (omega (arith, part .fields)) (part .inside))

@@ -1,4 +1,4 @@
--- The record at the front of the bytes that are left, found part by part: two bytes for its mark, then its fixed part, then the whole of it. A reading that gives
+-- The record at the front of the bytes that are left, found part by part: two bytes for its mark, then its fixed part, its head, the whole of it. A reading that gives
 -- a size looks at no byte past it (`Local`), so that neither more bytes read later nor the record taken out of the others change what it gives. Assumes nothing.
 use mathlib.Core.Path.{_≡_, sym, ap, ap₂, subst, _∙_}
 use mathlib.Core.Logic.{⊎-elim, inl, inr}
@@ -6,16 +6,16 @@ use mathlib.Core.List.{List, [], _++_, append-nil}
 use Prim.Native.Nat.{ℕ, _*_, _+_, _-_, _≤_, _<_}
 use native.Mathlib.Omega.{arith}
 use native.Mathlib.Decide.{decLe}
-use lib.ListN.{length, getD, take, drop, length-take, length-append}
+use lib.ListN.{length, take, drop, length-take, length-append}
 use lib.Seq.{take-take, getD-take}
 use borrow.Author.Tests.{eq-eqb, ne-eqb, le-leb, lt-leb}
 use Rattle.wire.specs.Wire.{part}
 use Rattle.protocol.specs.declared.stream.Stream.{Stream}
 use Rattle.protocol.specs.declared.records.Found.{Found}
-use Rattle.protocol.specs.Stream.{Fits, unread, count-left, left, Continues, Wants, Past}
-use Rattle.protocol.specs.Records.{mark-of, whole, tells, front-size, OneRecord}
+use Rattle.protocol.specs.Stream.{Fits, unread, count-left, left, Wants, Past}
+use Rattle.protocol.specs.Records.{mark-of, whole, tells, told-fixed, told-head, front-fixed, front-head, front-size, OneRecord}
 use Rattle.protocol.specs.Contracts.{Finds, FindsBytes}
-use Rattle.protocol.proofs.StreamLaws.{continues-then, length-left, front-more, getD-front, getD-part}
+use Rattle.protocol.proofs.StreamLaws.{continues-then, length-left, front-more}
 
 -- ---- some bytes at the front
 
@@ -76,47 +76,108 @@ module _ (f g : List ℕ → ℕ) (grows : (l : List ℕ) → g l ≤ length l �
       let again : tells f (g l') l' ≡ k = told-again l l' more front' (omega arith) ∙ sym this in
       ap (λ (j : ℕ). whole j l') again ∙ whole-there k l' fits' ∙ sym (all .1)
 
--- a program's sizes: a fixed part holds the mark, and a record its fixed part
-pub record Sized (fixed : ℕ → ℕ) (size : List ℕ → ℕ) : Type 0 where
-  pub marked : (m : ℕ) → (fixed m ≡ 0 → ⊥) → 2 ≤ fixed m
-  pub headed : (h : List ℕ) → (size h ≡ 0 → ⊥) → length h ≤ size h
-
-module _ (fixed : ℕ → ℕ) (size : List ℕ → ℕ) (sized : Sized fixed size) where
-  -- how long the fixed part is, by the two bytes of the mark
-  abbrev head : List ℕ → ℕ
-  head r = tells (λ h. fixed (mark-of h)) 2 r
-
-  pub local-head : Local (λ r. whole (head r) r)
-  local-head = local-tells (λ h. fixed (mark-of h)) (λ _. 2) (λ l _ some. sized .marked (mark-of (take 2 l)) some) (local-whole 2)
-
-  pub local-front : Local (front-size fixed size)
-  unfolding front-size
-  local-front =
-      local-tells size head
-      (λ l fits some. let long : length (take (head l) l) ≡ head l = rw length-take (omega arith) in omega (arith, long, sized .headed (take (head l) l) some))
-      local-head
-
-  -- a whole record has its fixed part, of a mark that may stand there, and that tells how long the record is
-  pub fixed-part : (r : List ℕ) → OneRecord (front-size fixed size) r
-      → (fixed (mark-of r) ≡ 0 → ⊥) × (fixed (mark-of r) ≤ length r) × (size (take (fixed (mark-of r)) r) ≡ length r)
-  unfolding front-size
-  fixed-part r this =
-      let some : whole (tells size (head r) r) r ≡ 0 → ⊥ = λ e. omega (arith, e, this .all, this .some) in
-      let more : whole (head r) r ≡ 0 → ⊥ = λ e. some (ap (λ (j : ℕ). whole j r) (tells-none size (head r) r e) ∙ whole-there 0 r (omega arith)) in
-      let two : whole 2 r ≡ 0 → ⊥ = λ e. more (ap (λ (j : ℕ). whole j r) (tells-none (λ h. fixed (mark-of h)) 2 r e) ∙ whole-there 0 r (omega arith)) in
-      let letters : mark-of (take 2 r) ≡ mark-of r = ap₂ (λ (a b : ℕ). a * 256 + b) (getD-take 2 r 0 0 (omega arith)) (getD-take 2 r 1 0 (omega arith)) in
-      let marked : head r ≡ fixed (mark-of r) = tells-told (λ h. fixed (mark-of h)) 2 r two ∙ ap fixed letters in
-      let told = whole-some (head r) r more in (
-        (λ e. more (told .1 ∙ marked ∙ e)),
-        omega (arith, marked, told .0),
-        ap (λ (k : ℕ). size (take k r)) (sym marked) ∙ sym (tells-told size (head r) r more) ∙ sym (whole-some (tells size (head r) r) r some .1) ∙ this .all,
+-- of bytes that are one whole reading so told, the first ones told of it: they are there, and they are one whole reading themselves
+module _ (f g : List ℕ → ℕ) (near : Local (λ r. whole (g r) r)) where
+  pub first-part : (r : List ℕ) → OneRecord (λ r. whole (tells f (g r) r) r) r
+      → (0 < g r) × (g r ≤ length r) × (f (take (g r) r) ≡ length r) × OneRecord (λ r. whole (g r) r) (take (g r) r)
+  first-part r this =
+      let some : whole (tells f (g r) r) r ≡ 0 → ⊥ = λ e. omega (arith, e, this .all, this .some) in
+      let more : whole (g r) r ≡ 0 → ⊥ = λ e. some (ap (λ (j : ℕ). whole j r) (tells-none f (g r) r e) ∙ whole-there 0 r (omega arith)) in
+      let told = whole-some (g r) r more in
+      let long : length (take (g r) r) ≡ g r = rw length-take (omega (arith, told .0)) in
+      let kept : whole (g (take (g r) r)) (take (g r) r) ≡ whole (g r) r =
+      near r (take (g r) r) more
+      (ap (λ (k : ℕ). take k (take (g r) r)) (told .1) ∙ take-take (g r) (g r) r (omega arith) ∙ ap (λ (k : ℕ). take k r) (sym (told .1)))
+      (omega (arith, told .1, long)) in
+      let some' : 0 < g r = omega (arith, told .1, more) in (
+        some',
+        told .0,
+        sym (tells-told f (g r) r more) ∙ sym (whole-some (tells f (g r) r) r some .1) ∙ this .all,
+        record { all = kept ∙ told .1 ∙ sym long; some = omega (arith, long, some') },
       )
 
+-- the mark is in the first bytes
+pub mark-front : (n : ℕ) (r : List ℕ) → 2 ≤ n → mark-of (take n r) ≡ mark-of r
+mark-front n r h = ap₂ (λ (a b : ℕ). a * 256 + b) (getD-take n r 0 0 (omega arith)) (getD-take n r 1 0 (omega arith))
+
+-- a program's sizes: a fixed part holds the mark, a head its fixed part, and a record its head
+pub record Sized (fixed : ℕ → ℕ) (head size : List ℕ → ℕ) : Type 0 where
+  pub marked : (m : ℕ) → (fixed m ≡ 0 → ⊥) → 2 ≤ fixed m
+  pub headed : (h : List ℕ) → (head h ≡ 0 → ⊥) → length h ≤ head h
+  pub sized : (h : List ℕ) → (size h ≡ 0 → ⊥) → length h ≤ size h
+
+-- what the fixed part of a record tells, where its head has so many bytes
+pub record Parts (fixed : ℕ → ℕ) (head size : List ℕ → ℕ) (r : List ℕ) : Type 0 where
+  pub may : fixed (mark-of r) ≡ 0 → ⊥
+  pub count : ℕ
+  pub told : head (take (fixed (mark-of r)) r) ≡ count
+  pub fields : fixed (mark-of r) ≤ count
+  pub inside : count ≤ length r
+  pub all : size (take count r) ≡ length r
+
+module _ (fixed : ℕ → ℕ) (head size : List ℕ → ℕ) (sized : Sized fixed head size) where
+  -- what some bytes tell, told of as many as they are
+  grown : (f g : List ℕ → ℕ) → ((h : List ℕ) → (f h ≡ 0 → ⊥) → length h ≤ f h) → (l : List ℕ) → g l ≤ length l → (f (take (g l) l) ≡ 0 → ⊥) → g l ≤ f (take (g l) l)
+  grown f g holds l fits some = let long : length (take (g l) l) ≡ g l = rw length-take (omega arith) in omega (arith, long, holds (take (g l) l) some)
+
+  pub local-fixed : Local (front-fixed fixed)
+  unfolding front-fixed
+  local-fixed = local-tells (λ h. fixed (mark-of h)) (λ _. 2) (λ l _ some. sized .marked (mark-of (take 2 l)) some) (local-whole 2)
+
+  pub local-head : Local (front-head fixed head)
+  unfolding front-head front-fixed
+  local-head = local-tells head (told-fixed fixed) (grown head (told-fixed fixed) (sized .headed)) local-fixed
+
+  pub local-front : Local (front-size fixed head size)
+  unfolding front-size front-head
+  local-front = local-tells size (told-head fixed head) (grown size (told-head fixed head) (sized .sized)) local-head
+
+  -- a fixed part: of a mark that may stand there
+  pub fixed-part : (r : List ℕ) → OneRecord (front-fixed fixed) r → (fixed (mark-of r) ≡ 0 → ⊥) × (fixed (mark-of r) ≡ length r)
+  unfolding front-fixed
+  fixed-part r this =
+      let part = first-part (λ h. fixed (mark-of h)) (λ _. 2) (local-whole 2) r this in
+      let told : fixed (mark-of r) ≡ length r = ap fixed (sym (mark-front 2 r (omega arith))) ∙ part .2 in
+      ((λ e. omega (arith, e, told, this .some)), told)
+
+  -- a head: its fixed part tells how long it is
+  pub head-part : (r : List ℕ) → OneRecord (front-head fixed head) r
+      → (fixed (mark-of r) ≡ 0 → ⊥) × (fixed (mark-of r) ≤ length r) × (head (take (fixed (mark-of r)) r) ≡ length r)
+  unfolding front-head front-fixed
+  head-part r this =
+      let part = first-part head (told-fixed fixed) local-fixed r this in
+      let n = told-fixed fixed r in
+      let long : length (take n r) ≡ n = rw length-take (omega (arith, part .1)) in
+      let whole = fixed-part (take n r) (part .3) in
+      let two : 2 ≤ n = omega (arith, long, whole .1, sized .marked (mark-of (take n r)) (whole .0)) in
+      let same : fixed (mark-of r) ≡ n = ap fixed (sym (mark-front n r two)) ∙ whole .1 ∙ long in
+      ((λ e. omega (arith, e, same, two)), omega (arith, same, part .1), ap (λ (k : ℕ). head (take k r)) same ∙ part .2)
+
+  -- a whole record: its head tells how long it is
+  pub parts : (r : List ℕ) → OneRecord (front-size fixed head size) r → Parts fixed head size r
+  unfolding front-size front-head
+  parts r this =
+      let part = first-part size (told-head fixed head) local-head r this in
+      let n = told-head fixed head r in
+      let long : length (take n r) ≡ n = rw length-take (omega (arith, part .1)) in
+      let told = head-part (take n r) (part .3) in
+      let two : 2 ≤ n = omega (arith, long, told .1, sized .marked (mark-of (take n r)) (told .0)) in
+      let same : fixed (mark-of (take n r)) ≡ fixed (mark-of r) = ap fixed (mark-front n r two) in
+      let fits : fixed (mark-of r) ≤ n = omega (arith, long, told .1, same) in
+      record {
+        may = λ e. told .0 (same ∙ e);
+        count = n;
+        told = ap head (sym (take-take (fixed (mark-of r)) n r fits) ∙ ap (λ (k : ℕ). take k (take n r)) (sym same)) ∙ told .2 ∙ long;
+        fields = fits;
+        inside = part .1;
+        all = part .2;
+      }
+
   -- so it has the two bytes of its mark
-  pub mark-there : (r : List ℕ) → OneRecord (front-size fixed size) r → 2 ≤ length r
+  pub mark-there : (r : List ℕ) → OneRecord (front-size fixed head size) r → 2 ≤ length r
   mark-there r this =
-      let part = fixed-part r this in
-      omega (arith, part .1, sized .marked (mark-of r) (part .0))
+      let part = parts r this in
+      omega (arith, part .fields, part .inside, sized .marked (mark-of r) (part .may))
 
 -- ---- what is found at a place
 
@@ -211,54 +272,14 @@ module _ (f g : List ℕ → ℕ) {s : Stream} {before : List ℕ} where
 pub found-all : (n : ℕ) {s : Stream} {r : Found} {before after : List ℕ} → FindsBytes n s r before after → (r .size ≡ 0 → ⊥) → r .size ≡ n
 found-all n {s} {r} {before} {after} h some = h .found .size ∙ whole-some n (left (r .stream) after) (λ e. some (h .found .size ∙ e)) .1
 
--- the mark stays where more is read: n bytes and k bytes of the record, of which two are the mark
-pub mark-kept : {a b : Stream} {before after : List ℕ} (n k : ℕ) → Continues a b before after → 2 ≤ count-left a → 2 ≤ n → 2 ≤ k
-    → mark-of (take n (drop (b .at) after)) ≡ mark-of (take k (drop (a .at) before))
-mark-kept {a} {b} {before} {after} n k c enough wide wide' = ap₂ (λ (x y : ℕ). x * 256 + y) (letter 0 (omega arith)) (letter 1 (omega arith))
-  where
-    letter : (i : ℕ) → i < 2 → getD (take n (drop (b .at) after)) i 0 ≡ getD (take k (drop (a .at) before)) i 0
-    letter i h =
-        getD-take n (drop (b .at) after) i 0 (omega arith)
-        ∙ sym (getD-part (b .at) (count-left b) i after (omega (arith, c .more)))
-        ∙ getD-front (count-left a) i (left b after) (left a before) (c .kept) (omega arith)
-        ∙ getD-part (a .at) (count-left a) i before (omega arith)
-        ∙ sym (getD-take k (drop (a .at) before) i 0 (omega arith))
-
--- the record at the front, found in three parts: its mark, its fixed part, the whole of it
-module _ (fixed : ℕ → ℕ) (size : List ℕ → ℕ) (sized : Sized fixed size) {s : Stream} {before : List ℕ} where
-  -- no two bytes are left for its mark
-  pub front-unmarked : (r : Found) {after : List ℕ} → FindsBytes 2 s r before after → r .size ≡ 0 → Finds (front-size fixed size) s r before after
-  unfolding front-size
-  front-unmarked r h none = finds-none size (head fixed size sized) r (finds-none (λ h. fixed (mark-of h)) (λ _. 2) r (h .found) none) none
-
-  module _ (a b : Found) (k n : ℕ) {between after : List ℕ} (marked : FindsBytes 2 s a before between) (some : a .size ≡ 0 → ⊥) (width : k ≡ 2)
-      (this : n ≡ fixed (mark-of (take k (drop (a .stream .at) between)))) (then : FindsBytes n (a .stream) b between after) (long : length between ≡ 65536)
-      (long' : length after ≡ 65536) where
-    heads : Finds (λ r. whole (head fixed size sized r) r) s b before after
-    heads =
-        finds-told (λ h. fixed (mark-of h)) (λ _. 2) a b k n (local-whole 2) (marked .found) some (width ∙ sym (found-all 2 marked some)) this then long long'
-
-    -- its fixed part is cut, or no record of its mark may stand there
-    pub front-headless : b .size ≡ 0 → Finds (front-size fixed size) s b before after
-    unfolding front-size
-    front-headless none = finds-none size (head fixed size sized) b heads none
-
-    -- its fixed part is there, and tells how long it is
-    pub front-found : (r : Found) (j m : ℕ) {end : List ℕ} → (b .size ≡ 0 → ⊥) → j ≡ n → m ≡ size (take j (drop (b .stream .at) after)) → FindsBytes m (b .stream) r after end
-        → length end ≡ 65536 → Finds (front-size fixed size) s r before end
-    unfolding front-size
-    front-found r j m {end} more wide told last long'' =
-        finds-told size (head fixed size sized) b r j m (local-head fixed size sized) heads more (wide ∙ sym (found-all n then more)) told last long' long''
-
--- a record found, taken out of the bytes left, is one whole record
-pub one-record : (reading : List ℕ → ℕ) {s : Stream} {r : Found} {p : Stream} {before after : List ℕ} → Local reading → Finds reading s r before after → (r .size ≡ 0 → ⊥)
-    → length after ≡ 65536 → Past (r .stream) (r .size) p → OneRecord reading (take (p .at - r .stream .at) (drop (r .stream .at) after))
+-- what was found, taken out of the bytes left, is found again there: one whole reading
+pub found-one : (reading : List ℕ → ℕ) {s : Stream} {r : Found} {before after : List ℕ} (n : ℕ) → Local reading → Finds reading s r before after → (r .size ≡ 0 → ⊥)
+    → length after ≡ 65536 → n ≡ r .size → OneRecord reading (take n (drop (r .stream .at) after))
 unfolding part
-one-record reading {s} {r} {p} {before} {after} near found some long step =
+found-one reading {s} {r} {before} {after} n near found some long width =
     let l : List ℕ = left (r .stream) after in
     let many : length l ≡ count-left (r .stream) = length-left (r .stream) after (found .same .fits) long in
-    let width : p .at - r .stream .at ≡ r .size = omega (arith, step .at) in
-    let taken : take (p .at - r .stream .at) (drop (r .stream .at) after) ≡ take (r .size) l =
+    let taken : take n (drop (r .stream .at) after) ≡ take (r .size) l =
     ap (λ (k : ℕ). take k (drop (r .stream .at) after)) width
     ∙ sym (take-take (r .size) (count-left (r .stream)) (drop (r .stream .at) after) (found .inside)) in
     let size : length (take (r .size) l) ≡ r .size = rw length-take (omega (arith, found .inside)) in
@@ -268,6 +289,11 @@ one-record reading {s} {r} {p} {before} {after} near found some long step =
     (omega (arith, found .size, size)) in
     subst (OneRecord reading) (sym taken)
     (record { all = again ∙ sym (found .size) ∙ sym size; some = omega (arith, size) })
+
+-- so is a record, up to the place past it
+pub one-record : (reading : List ℕ → ℕ) {s : Stream} {r : Found} {p : Stream} {before after : List ℕ} → Local reading → Finds reading s r before after → (r .size ≡ 0 → ⊥)
+    → length after ≡ 65536 → Past (r .stream) (r .size) p → OneRecord reading (take (p .at - r .stream .at) (drop (r .stream .at) after))
+one-record reading {s} {r} {p} near found some long step = found-one reading (p .at - r .stream .at) near found some long (omega (arith, step .at))
 
 -- ---- the start of the input
 

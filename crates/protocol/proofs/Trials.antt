@@ -10,7 +10,7 @@ use Rattle.protocol.specs.declared.formats.Format.{Format}
 use Rattle.protocol.specs.declared.formats.Format.the-variants.{Bench, Probe}
 use Rattle.protocol.specs.Text.{numeral, decimal, hex, columns, numbers-line, bad-line, last-line}
 use Rattle.protocol.specs.Records.{NW, whole, tells, front-size}
-use Rattle.protocol.specs.Formats.{bench-fixed, bench-size, probe-least, probe-fixed, probe-size, fixed, size}
+use Rattle.protocol.specs.Formats.{bench-fixed, bench-size, probe-least, probe-fixed, probe-size, fixed, head, size}
 
 -- 0, 9, 10, 258
 numbers : decimal 0 ++ decimal 9 ++ decimal 10 ++ decimal 258 ≡ 48 ∷ 57 ∷ 49 ∷ 48 ∷ 50 ∷ 53 ∷ 56 ∷ []
@@ -39,7 +39,7 @@ stopped-line = refl
 
 -- the size of the record that is read at the front of some bytes, 0 for none
 read : Format → Bool → List ℕ → ℕ
-read f first = front-size (fixed f first) (size f)
+read f first = front-size (fixed f first) (head f) (size f)
 
 -- of `bench`: no byte, one byte, NW as first and later, LT as first, later and cut, CM with a payload of one byte, of none left, of one byte cut, and too long
 bench-sizes : List ℕ
@@ -60,7 +60,7 @@ bench-sizes =
     ∷ []
 
 bench-records : bench-sizes ≡ 0 ∷ 0 ∷ 6 ∷ 0 ∷ 0 ∷ 10 ∷ 0 ∷ 15 ∷ 0 ∷ 0 ∷ 0 ∷ 139 ∷ 23 ∷ []
-unfolding read bench-sizes front-size tells whole fixed size bench-fixed bench-size field number part
+unfolding read bench-sizes front-size tells whole fixed head size bench-fixed bench-size field number part
 bench-records = refl
 
 -- of `probe`: NW as first and later, LT as first and later, CM with a room of 4,096 and a payload of one byte, that byte cut, and with a room of 4,097; EV with a
@@ -82,5 +82,5 @@ probe-sizes =
     ∷ []
 
 probe-records : probe-sizes ≡ 6 ∷ 6 ∷ 0 ∷ 10 ∷ 18 ∷ 0 ∷ 0 ∷ 16 ∷ 0 ∷ 2 ∷ 2 ∷ 0 ∷ []
-unfolding read probe-sizes front-size tells whole fixed size probe-least probe-fixed probe-size field number part
+unfolding read probe-sizes front-size tells whole fixed head size probe-least probe-fixed probe-size field number part
 probe-records = refl

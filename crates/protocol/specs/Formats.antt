@@ -62,12 +62,17 @@ unfoldable pub fixed : Format → Bool → ℕ → ℕ
 fixed Bench = bench-fixed
 fixed Probe = probe-fixed
 
--- the bytes of the whole record, by its fixed part
+-- the bytes of a record's head, by its fixed part: those before the sizes in it are known. Of these records the fixed part itself tells the sizes
+unfoldable pub head : Format → List ℕ → ℕ
+head Bench h = length h
+head Probe h = length h
+
+-- the bytes of the whole record, by its head
 unfoldable pub size : Format → List ℕ → ℕ
 size Bench = bench-size
 size Probe = probe-size
 
--- a fixed part that was found: it holds its mark and the fields of that mark, and no more than 139 bytes
+-- a fixed part or a head that was found: it holds its mark and the fields of that mark, and no more than 139 bytes
 pub record Head (f : Format) (h : List ℕ) : Type 0 where
   pub marked : 2 ≤ length h
   pub fields : fixed f false (mark-of h) ≤ length h

@@ -42,10 +42,25 @@ whole n r = cond (leb n (length r)) n 0
 unfoldable pub tells : (List ℕ → ℕ) → ℕ → List ℕ → ℕ
 tells f n r = cond (eqb (whole n r) 0) 0 (f (take n r))
 
--- how many bytes the record at the front has: its mark tells how long its fixed part is, and that how long it is. 0 stands for no record: an unknown mark,
--- "a cut record", "a size over its limit", or the end of the input
-unfoldable pub front-size : (ℕ → ℕ) → (List ℕ → ℕ) → List ℕ → ℕ
-front-size fixed size r = whole (tells size (tells (λ h. fixed (mark-of h)) 2 r) r) r
+-- how many bytes the fixed part of the record at the front has, as its mark tells
+abbrev pub told-fixed : (ℕ → ℕ) → List ℕ → ℕ
+told-fixed fixed r = tells (λ h. fixed (mark-of h)) 2 r
+
+-- how many its head has, as its fixed part tells: the bytes before the sizes in it are known
+abbrev pub told-head : (ℕ → ℕ) → (List ℕ → ℕ) → List ℕ → ℕ
+told-head fixed head r = tells head (told-fixed fixed r) r
+
+-- the fixed part, and the head, of the record at the front: as many bytes, or 0 where they are cut
+unfoldable pub front-fixed : (ℕ → ℕ) → List ℕ → ℕ
+front-fixed fixed r = whole (told-fixed fixed r) r
+
+unfoldable pub front-head : (ℕ → ℕ) → (List ℕ → ℕ) → List ℕ → ℕ
+front-head fixed head r = whole (told-head fixed head r) r
+
+-- how many bytes the record at the front has: its mark tells how long its fixed part is, that how long its head is, and that how long it is. 0 stands for no
+-- record: an unknown mark, "a cut record", "a size over its limit", or the end of the input
+unfoldable pub front-size : (ℕ → ℕ) → (List ℕ → ℕ) → (List ℕ → ℕ) → List ℕ → ℕ
+front-size fixed head size r = whole (tells size (told-head fixed head r) r) r
 
 -- those bytes are one whole record by that reading, and nothing more
 pub record OneRecord (reading : List ℕ → ℕ) (r : List ℕ) : Type 0 where

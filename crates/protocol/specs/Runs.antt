@@ -18,15 +18,16 @@ pub record Printed (D : Type 0) : Type 0 where
   pub next : D
 
 -- a program over states D: how long the fixed part of a record is, by its mark and by whether it is the input's first (0: none of that mark may stand there);
--- how long a record is, by its fixed part (0: a size is over its limit); and what serving a record gives
+-- how long its head is, by its fixed part, and how long it is, by its head (0: a size is over its limit); and what serving a record gives
 pub record Program (D : Type 0) : Type 0 where
   pub fixed : Bool → ℕ → ℕ
+  pub head : List ℕ → ℕ
   pub size : List ℕ → ℕ
   pub serve : D → List ℕ → Printed D
 
 -- how many bytes the record at the front of the bytes at some offset has, 0 where none may be served
 abbrev pub reading : {D : Type 0} → Program D → ℕ → List ℕ → ℕ
-reading P offset = front-size (P .fixed (eqb offset 0)) (P .size)
+reading P offset = front-size (P .fixed (eqb offset 0)) (P .head) (P .size)
 
 -- where a run is: the state, the place in the input, the bytes read and not used, whether a read brought no byte, the bytes printed and not written
 pub record Machine (D : Type 0) : Type 0 where

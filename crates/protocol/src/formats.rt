@@ -9,8 +9,8 @@ ghost use lib.Dec.{eqb};
 ghost use lib.ListN.{length};
 ghost use Rattle.protocol.specs.declared.formats.Format.the-variants.{Bench, Probe};
 ghost use Rattle.protocol.specs.Stream.{Fits};
-ghost use Rattle.protocol.specs.Records.{mark-of, CM, EV, front-size};
-ghost use Rattle.protocol.specs.Formats.{bench-fixed, bench-size, probe-least, probe-fixed, probe-size, fixed, size, Head};
+ghost use Rattle.protocol.specs.Records.{mark-of, CM, EV, front-fixed, front-head, front-size};
+ghost use Rattle.protocol.specs.Formats.{bench-fixed, bench-size, probe-least, probe-fixed, probe-size, fixed, head, size, Head};
 ghost use Rattle.protocol.specs.Contracts.{Finds};
 
 // Whose records they are.
@@ -127,6 +127,17 @@ fn fixed_size(format: Format, first: bool, mark: u64) -> usize
     }
 }
 
+// The bytes of the head of a record that begins so.
+fn head_size(format: Format, part: &[u8]) -> usize
+    requires { ⌜ Head format (now part) ⌝ }
+    ensures { λ r. ⌜ (r ≡ head format (now (part .entry))) × (r ≤ 65536) ⌝ }
+{
+    match format {
+        Format::Bench => part.len(),
+        Format::Probe => part.len(),
+    }
+}
+
 // The bytes of a record that begins so; 0 where a size in it is over its limit.
 fn whole_size(format: Format, head: &[u8]) -> usize
     requires { ⌜ Head format (now head) ⌝ }
@@ -138,10 +149,10 @@ fn whole_size(format: Format, head: &[u8]) -> usize
     }
 }
 
-// The next record.
-pub fn next(format: Format, s: Stream, input: &mut [u8], out: &[u8]) -> Found
+// The fixed part of the next record.
+fn next_fixed(format: Format, s: Stream, input: &mut [u8], out: &[u8]) -> Found
     requires { ⌜ Fits s × (length (now input) ≡ 65536) × (length (now out) ≡ 65536) ⌝ }
-    ensures { λ r. ⌜ Finds (front-size (fixed format (eqb (s .offset) 0)) (size format)) s r (now (input .entry)) (now (input .exit)) ⌝ }
+    ensures { λ r. ⌜ Finds (front-fixed (fixed format (eqb (s .offset) 0))) s r (now (input .entry)) (now (input .exit)) ⌝ }
 {
     let marked = s.whole(input, out, 2);
     if marked.size == 0 {
@@ -150,12 +161,37 @@ pub fn next(format: Format, s: Stream, input: &mut [u8], out: &[u8]) -> Found
     let here = marked.stream;
     let at = here.at;
     let fixed = fixed_size(format, s.offset == 0, records::mark(&input[at..at + 2]));
-    let head = here.whole(input, out, fixed);
-    if head.size == 0 {
+    here.whole(input, out, fixed)
+}
+
+// The head of the next record.
+fn next_head(format: Format, s: Stream, input: &mut [u8], out: &[u8]) -> Found
+    requires { ⌜ Fits s × (length (now input) ≡ 65536) × (length (now out) ≡ 65536) ⌝ }
+    ensures { λ r. ⌜ Finds (front-head (fixed format (eqb (s .offset) 0)) (head format)) s r (now (input .entry)) (now (input .exit)) ⌝ }
+{
+    let part = next_fixed(format, s, input, out);
+    let n = part.size;
+    if n == 0 {
+        return part;
+    }
+    let here = part.stream;
+    let at = here.at;
+    let size = head_size(format, &input[at..at + n]);
+    here.whole(input, out, size)
+}
+
+// The next record.
+pub fn next(format: Format, s: Stream, input: &mut [u8], out: &[u8]) -> Found
+    requires { ⌜ Fits s × (length (now input) ≡ 65536) × (length (now out) ≡ 65536) ⌝ }
+    ensures { λ r. ⌜ Finds (front-size (fixed format (eqb (s .offset) 0)) (head format) (size format)) s r (now (input .entry)) (now (input .exit)) ⌝ }
+{
+    let head = next_head(format, s, input, out);
+    let n = head.size;
+    if n == 0 {
         return head;
     }
-    let there = head.stream;
-    let from = there.at;
-    let size = whole_size(format, &input[from..from + fixed]);
-    there.whole(input, out, size)
+    let here = head.stream;
+    let at = here.at;
+    let size = whole_size(format, &input[at..at + n]);
+    here.whole(input, out, size)
 }

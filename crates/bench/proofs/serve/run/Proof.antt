@@ -10,7 +10,7 @@ use Rattle.protocol.specs.Records.{OneRecord}
 use Rattle.protocol.specs.Runs.{reading}
 use Rattle.protocol.proofs.Laws.{sized, unread-fits, local-front, one-record, with-used, length-taken}
 use Rattle.protocol.specs.declared.formats.Format.the-variants.{Bench}
-use Rattle.protocol.specs.Formats.{fixed, size}
+use Rattle.protocol.specs.Formats.{fixed, head, size}
 use Rattle.bench.specs.Calls.{bench}
 use Rattle.bench.proofs.RecordLaws.{new-long}
 use Rattle.bench.proofs.RunLaws.{at-start, run-unmade, run-refused, run-made}
@@ -35,7 +35,7 @@ bytes k = take (k .past .result .at - looked k .next .result .stream .at) (drop 
 this : (k : tie.After-past) → OneRecord (reading bench (opened k .new .result .offset)) (bytes k)
 this k =
     let first = eqb (opened k .new .result .offset) 0 in
-    one-record (reading bench (opened k .new .result .offset)) (local-front (fixed Bench first) (size Bench) (sized Bench first)) (looked k .next .ensures) (k .before .if1 .left)
+    one-record (reading bench (opened k .new .result .offset)) (local-front (fixed Bench first) (head Bench) (size Bench) (sized Bench first)) (looked k .next .ensures) (k .before .if1 .left)
     (long (looked k)) (k .past .ensures)
 
 inside : (k : tie.After-past) → k .past .result .at ≤ 65536

@@ -15,7 +15,7 @@ use Rattle.protocol.specs.Runs.Steps.{stay}
 use Rattle.protocol.specs.Contracts.{Serves}
 use Rattle.protocol.proofs.Laws.{serves-as, sized, local-front, mark-there, one-record, with-used, turn-served, turn-ends, run-far}
 use Rattle.protocol.specs.declared.formats.Format.the-variants.{Bench}
-use Rattle.protocol.specs.Formats.{fixed, size}
+use Rattle.protocol.specs.Formats.{fixed, head, size}
 use Rattle.bench.specs.Calls.{serve-record, bench}
 use Rattle.bench.proofs.RecordLaws.{command-long, event-long, media-long, line-long, marked}
 use Rattle.bench.proofs.CallLaws.{event-served, line-stays, by-command, by-event, by-media, by-line}
@@ -57,7 +57,7 @@ bytes k = take (k .past .result .at - looked k .next .result .stream .at) (drop 
 this : (k : tie.After-past Inv-loop μ-loop) → OneRecord (reading bench (at-loop k .loop .s .offset)) (bytes k)
 this k =
     let first = eqb (at-loop k .loop .s .offset) 0 in
-    one-record (reading bench (at-loop k .loop .s .offset)) (local-front (fixed Bench first) (size Bench) (sized Bench first)) (looked k .next .ensures) (k .before .if2 .left)
+    one-record (reading bench (at-loop k .loop .s .offset)) (local-front (fixed Bench first) (head Bench) (size Bench) (sized Bench first)) (looked k .next .ensures) (k .before .if2 .left)
     (long (looked k)) (k .past .ensures)
 
 ordered : (k : tie.After-past Inv-loop μ-loop) → looked k .next .result .stream .at ≤ k .past .result .at
@@ -156,7 +156,7 @@ mark-requires : tie.Need-mark-requires Inv-loop μ-loop
 mark-requires c κs =
     let k = c .before .before in
     let first = eqb (at-loop k .loop .s .offset) 0 in
-    mark-there (fixed Bench first) (size Bench) (sized Bench first) (bytes k) (this k)
+    mark-there (fixed Bench first) (head Bench) (size Bench) (sized Bench first) (bytes k) (this k)
 
 sub-command : tie.Need-sub-command Inv-loop μ-loop
 sub-command c = ordered (c .before .before .before .before)

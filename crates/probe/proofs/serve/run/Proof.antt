@@ -14,7 +14,7 @@ use Rattle.protocol.specs.Runs.{reading, machine-of, Steps}
 use Rattle.protocol.specs.Runs.Steps.{stay}
 use Rattle.protocol.proofs.Laws.{local-front, sized, ready, one-record, unread-fits, turn-served, turn-ends, run-far}
 use Rattle.protocol.specs.declared.formats.Format.the-variants.{Probe}
-use Rattle.protocol.specs.Formats.{fixed, size}
+use Rattle.protocol.specs.Formats.{fixed, head, size}
 use Rattle.probe.specs.Calls.{probe}
 use Rattle.probe.proofs.RunLaws.{run-from}
 use Rattle.probe.proofs.serve.run.Statement.{statement}
@@ -52,7 +52,7 @@ bytes k = take (k .past .result .at - looked k .next .result .stream .at) (drop 
 this : (k : tie.After-past Inv-loop μ-loop) → OneRecord (reading probe (at-loop k .loop .s .offset)) (bytes k)
 this k =
     let first = eqb (at-loop k .loop .s .offset) 0 in
-    one-record (reading probe (at-loop k .loop .s .offset)) (local-front (fixed Probe first) (size Probe) (sized Probe first)) (looked k .next .ensures) (k .before .if2 .left)
+    one-record (reading probe (at-loop k .loop .s .offset)) (local-front (fixed Probe first) (head Probe) (size Probe) (sized Probe first)) (looked k .next .ensures) (k .before .if2 .left)
     (long (looked k)) (k .past .ensures)
 
 make-requires : tie.Need-make-requires Inv-loop μ-loop
