@@ -37,7 +37,7 @@ unfolding part
 part-front i k a b h = ap (take k) (drop-append-le i a b (omega arith)) ∙ take-append-le k (drop i a) b (rw length-drop (omega arith))
 
 -- a part that begins past them does not see them
-part-past : (i k j : ℕ) (a b : List ℕ) → j ≡ length a + i → part j k (a ++ b) ≡ part i k b
+pub part-past : (i k j : ℕ) (a b : List ℕ) → j ≡ length a + i → part j k (a ++ b) ≡ part i k b
 unfolding part
 part-past i k j a b e = ap (take k) (ap (λ (x : ℕ). drop x (a ++ b)) e ∙ drop-append-add a b i)
 
