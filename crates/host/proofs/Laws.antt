@@ -6,3 +6,13 @@ pub use Rattle.host.proofs.DoneLaws.{written-fits}
 -- A request built from its fields passes the checks before its command's own, has the fields given, and its outcome on any device is the one meant; so has what the
 -- code built, where it answers 0.
 pub use Rattle.host.proofs.Taking.{taken, built-taken}
+-- The walk: its rule without a depth; the records that a reader finds in the room after a walk that is taken list the range, each covered line once, with its type, no
+-- other line, ascending; a refused walk leaves the room.
+pub use Rattle.host.proofs.WalkLaws.{walk-step}
+pub use Rattle.host.proofs.WalkTheorems.{room-read, room-lists, room-kept}
+-- 0100h exactly where the records need more than the room; a refused range gives the device's number.
+pub use Rattle.host.proofs.WalkTheorems.{small-where, small-only, device-number}
+-- The step of the walk, on the device's reply, is the walk's own halving.
+pub use Rattle.host.proofs.WalkReplies.{half-of-reply}
+-- A walk of any device gives no more than 5,120 bytes, however large the room is, and halves at most 26 times.
+pub use Rattle.host.proofs.WalkCounts.{walk-few, walk-enough, walk-size, walk-deep}

@@ -2,4 +2,13 @@
 pub mod DoneLaws
 pub mod RequestLaws
 pub mod Taking
+pub mod WalkLaws
+pub mod WalkLines
+pub mod WalkRecords
+pub mod WalkReplies
+pub mod Halvings
+pub mod WalkCalls
+pub mod WalkTheorems
+pub mod WalkCounts
+pub mod WalkExamples
 pub mod Laws

@@ -27,6 +27,8 @@ pub use Rattle.poison.proofs.Extents.{Gaps}
 pub use Rattle.poison.proofs.Sharing.{shares-some, some-shares}
 -- The entries that share a line with a range, cut to it: they cover what the list covers of the range, line by line with the same type, in ascending order.
 pub use Rattle.poison.proofs.Sharing.{covers-sharing, kind-sharing, chain-sharing}
+-- A line is below a run, in it or past it, and is in the run in the second case alone (`place` gives the case). A run and the runs past it share no line.
+pub use Rattle.poison.proofs.Counts.{Place, low, mid, high, place, below-run, inside-run, past-run, apart}
 -- Records have 16 bytes each; the type, the zero bits and the line are read back from a record's address.
 pub use Rattle.poison.proofs.Records.{length-records, unpacked}
 -- `Consistent`: what holds of a list and the paper of demand 3 after any changes. It holds of a new list and a blank paper,
