@@ -83,7 +83,7 @@ unfolding opcode payload admission commands run-command meant
 plain-identify = taking Q.identify (λ room h. rw (le-leb mailbox-size room h)) refl (λ d time. refl)
 
 -- ---- one number
-number-read : (k n : ℕ) → n < 256 ^ k → field (le k n) 0 k ≡ n
+pub number-read : (k n : ℕ) → n < 256 ^ k → field (le k n) 0 k ≡ n
 unfolding field part
 number-read k n h = ap number (take-all k (le k n) (rw length-le (omega arith))) ∙ number-le k n h
 

@@ -1,6 +1,10 @@
--- The definitions that the contracts of crate `host` cite, by subject: what a call that writes gives, requests and what they mean, the walk.
+-- The definitions that the contracts of crate `host` cite, by subject: what a call that writes gives, requests and what they mean, replies, the walk.
 pub mod Done
 pub mod Requests
 pub mod Meant
+pub mod Counted
+pub mod Replies
+pub mod Fields
+pub mod DeviceReplies
 pub mod Walk
 pub mod Walking
