@@ -39,7 +39,7 @@ sound-lasts : Lasting Sound
 sound-lasts =
     record {
       new = record { valid = Logs.valid-new; whole = Logs.whole-new };
-      reported = λ s r t h size. record { valid = Logs.valid-reported s r t (h .valid) size; whole = Logs.whole-reported s r t (h .whole) size };
+      reported = λ s r t h size small. record { valid = Logs.valid-reported s r t (h .valid) size; whole = Logs.whole-reported s r t (h .whole) size };
       cleared = λ s p h. record { valid = Logs.valid-cleared s p (h .valid); whole = Logs.whole-cleared s p (h .whole) };
     }
 
