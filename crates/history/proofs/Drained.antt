@@ -109,7 +109,7 @@ more-never-set v p calls k time room accepted =
 
 -- ---- the same of the code
 -- the bytes that the code wrote are the definitions' reply
-reply-read : (o : Outcome) (d : Device) (a : Answer) (before after : List ℕ) → Answered o d a before after → reply-in after a ≡ o .reply
+pub reply-read : (o : Outcome) (d : Device) (a : Answer) (before after : List ℕ) → Answered o d a before after → reply-in after a ≡ o .reply
 unfolding splice
 reply-read o d a before after answered =
     ap₂ take (answered .size) (answered .bytes) ∙ take-at (o .reply) (drop (0 + length (o .reply)) before) (length (o .reply)) refl

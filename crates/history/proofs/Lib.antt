@@ -5,6 +5,7 @@ pub mod Demand3
 pub mod Damage
 pub mod Ran
 pub mod Drained
+pub mod Replies
 pub mod KeptFirst
 pub mod Computing
 pub mod Builds
