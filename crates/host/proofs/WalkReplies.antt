@@ -6,6 +6,7 @@ use mathlib.Core.List.{List, [], _∷_, _++_}
 use Prim.Native.Nat.{ℕ, _+_, _*_, _/_, _%_, _^_, _≤_, _<_}
 use native.Mathlib.Omega.{arith}
 use lib.Dec.{ltb, eqb}
+use lib.Bits.{bitAnd, and-mask}
 use lib.ListN.{length, take, getD, length-append, length-take}
 use borrow.Author.Tests.{ltb-false, eq-eqb, ne-eqb}
 use Rattle.wire.specs.Wire.{le, part, splice}
@@ -41,13 +42,13 @@ module _ (reply : List ℕ) (n : ℕ) where
       go [] e = refl
       go (x ∷ l) e = absurd (omega arith)
 
-  pub half-clear : getD reply 0 0 % 2 ≡ 0 → 0 ≡ first-half reply n
+  pub half-clear : bitAnd (getD reply 0 0) 1 ≡ 0 → 0 ≡ first-half reply n
   unfolding first-half
-  half-clear h = simp h
+  half-clear h = simp (sym (and-mask (getD reply 0 0) 1) ∙ h)
 
-  pub half-set : (getD reply 0 0 % 2 ≡ 0 → ⊥) → n / 2 ≡ first-half reply n
+  pub half-set : (bitAnd (getD reply 0 0) 1 ≡ 0 → ⊥) → n / 2 ≡ first-half reply n
   unfolding first-half
-  half-set f = simp (eq-eqb (getD reply 0 0 % 2) 1 (omega arith)) (go (ltb 1 n) refl)
+  half-set f = let odd : getD reply 0 0 % 2 ≡ 0 → ⊥ = λ e. f (and-mask (getD reply 0 0) 1 ∙ e) in simp (eq-eqb (getD reply 0 0 % 2) 1 (omega arith)) (go (ltb 1 n) refl)
     where
       go : (b : Bool) → ltb 1 n ≡ b → n / 2 ≡ cond b (n / 2) 0
       go true e = refl

@@ -20,7 +20,7 @@ pub fn first_half(reply: &[u8], lines: u64) -> u64
     if reply.len() == 0 {
         return 0;
     }
-    if reply[0] % 2 == 0 {
+    if reply[0] & 1 == 0 {
         return 0;
     }
     // fewer than two lines are not halved: this is then 0
