@@ -20,12 +20,16 @@ use Rattle.mailbox.specs.Contracts.{Answered, Makes, EventDone, MediaDone, Line
 use Rattle.poison.specs.LineTest.{answer-number, answer-type}
 use Rattle.protocol.specs.declared.calls.Served.{Served}
 use Rattle.protocol.specs.Text.{numbers-line}
-use Rattle.protocol.specs.Records.{mark-of, NW, CM, EV, MD, LT, ES, DT}
+use Rattle.protocol.specs.Records.{mark-of, NW, CM, EV, MD, LT, ES, DT, RQ, RP, RW, WK}
 use Rattle.protocol.specs.Calls.{new-call, media-call, line-call}
 use Rattle.protocol.specs.Contracts.{PutsLine, Serves}
 use Rattle.protocol.proofs.Laws.{reply-fits, puts-line-as, serves-as}
 use Rattle.probe.specs.Lines.{still, buffer-line}
 use Rattle.probe.proofs.BufferLaws.{always-kept}
+use Rattle.probe.specs.HostRequests.{serve-request}
+use Rattle.probe.specs.HostReplies.{serve-reply}
+use Rattle.probe.specs.HostRewrites.{serve-again}
+use Rattle.probe.specs.HostWalks.{serve-walk}
 use Rattle.probe.specs.Calls.{command-call, filled, event-call, serve-new, serve-command, serve-event, serve-media, serve-line, serve-status, serve-total, serve-record}
 
 -- a buffer of the record's room is as long as the one that was filled
@@ -124,16 +128,33 @@ module _ (d : DeviceState) (r : List ℕ) {used : ℕ} {s : Served} {before afte
   unfolding serve-record
   by-status e h = serves-as h (rw e)
 
+  pub by-request : mark-of r ≡ mark-of RQ → Serves (serve-request d r) used s before after → Serves (serve-record d r) used s before after
+  unfolding serve-record
+  by-request e h = serves-as h (rw e)
+
+  pub by-reply : mark-of r ≡ mark-of RP → Serves (serve-reply d r) used s before after → Serves (serve-record d r) used s before after
+  unfolding serve-record
+  by-reply e h = serves-as h (rw e)
+
+  pub by-again : mark-of r ≡ mark-of RW → Serves (serve-again d r) used s before after → Serves (serve-record d r) used s before after
+  unfolding serve-record
+  by-again e h = serves-as h (rw e)
+
+  pub by-walk : mark-of r ≡ mark-of WK → Serves (serve-walk d r) used s before after → Serves (serve-record d r) used s before after
+  unfolding serve-record
+  by-walk e h = serves-as h (rw e)
+
   pub by-total : mark-of r ≡ mark-of DT → Serves (serve-total d) used s before after → Serves (serve-record d r) used s before after
   unfolding serve-record
   by-total e h = serves-as h (rw e)
 
 -- a mark that no record has: nothing is printed
 pub by-none : (r : List ℕ) {d : Device} {used : ℕ} {out : List ℕ} → (mark-of r ≡ mark-of NW → ⊥) → (mark-of r ≡ mark-of CM → ⊥) → (mark-of r ≡ mark-of EV → ⊥)
-    → (mark-of r ≡ mark-of MD → ⊥) → (mark-of r ≡ mark-of LT → ⊥) → (mark-of r ≡ mark-of ES → ⊥) → (mark-of r ≡ mark-of DT → ⊥) → ValidDevice d
+    → (mark-of r ≡ mark-of MD → ⊥) → (mark-of r ≡ mark-of LT → ⊥) → (mark-of r ≡ mark-of ES → ⊥) → (mark-of r ≡ mark-of DT → ⊥) → (mark-of r ≡ mark-of RQ → ⊥)
+    → (mark-of r ≡ mark-of RP → ⊥) → (mark-of r ≡ mark-of RW → ⊥) → (mark-of r ≡ mark-of WK → ⊥) → ValidDevice d
     → PutsLine used [] out out used → Serves (serve-record (state-of d) r) used (record { used = used; device = d }) out out
 unfolding serve-record
-by-none r {d} {used} {out} h₁ h₂ h₃ h₄ h₅ h₆ h₇ valid put =
+by-none r {d} {used} {out} h₁ h₂ h₃ h₄ h₅ h₆ h₇ h₈ h₉ h₁₀ h₁₁ valid put =
     serves-as {o = record { line = []; next = state-of d }} (record { line = put; next = refl; valid = valid })
     (rw (
       ne-eqb (mark-of r) (mark-of NW) h₁,
@@ -143,4 +164,8 @@ by-none r {d} {used} {out} h₁ h₂ h₃ h₄ h₅ h₆ h₇ valid put =
       ne-eqb (mark-of r) (mark-of LT) h₅,
       ne-eqb (mark-of r) (mark-of ES) h₆,
       ne-eqb (mark-of r) (mark-of DT) h₇,
+      ne-eqb (mark-of r) (mark-of RQ) h₈,
+      ne-eqb (mark-of r) (mark-of RP) h₉,
+      ne-eqb (mark-of r) (mark-of RW) h₁₀,
+      ne-eqb (mark-of r) (mark-of WK) h₁₁,
     ))

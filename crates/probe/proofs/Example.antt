@@ -1,6 +1,6 @@
 -- An example of the probe program, from the bytes of its input to the bytes of its output, by computation with the definitions that the contracts cite: a refused
--- make whose device is used on, refused calls with their whole answers, a buffer too small and one large enough, status and total, a later make, and a mark that is
--- not there yet. Assumes nothing.
+-- make whose device is used on, refused calls with their whole answers, a buffer too small and one large enough, status and total, a walk, requests and replies of the
+-- host library, a later make, and a mark that is not there yet. Assumes nothing.
 use mathlib.Core.Path.{_≡_, refl}
 use mathlib.Core.List.{List, [], _∷_, _++_}
 use Prim.Native.Nat.{ℕ}
@@ -9,13 +9,25 @@ use Rattle.mailbox.specs.DeviceCalls.{new-device}
 use Rattle.mailbox.proofs.Laws.{rules}
 use Rattle.protocol.specs.Text.{numeral, columns, hex, bad-line, last-line}
 use Rattle.protocol.specs.Records.{whole, tells, front-size}
-use Rattle.protocol.specs.Formats.{probe-least, probe-fixed, probe-size, fixed, head, size}
+use Rattle.protocol.specs.Formats.{probe-least, probe-fixed, probe-head, probe-within, probe-rest, probe-size, fixed, head, size}
 use Rattle.protocol.proofs.Laws.{printed}
-use Rattle.probe.specs.Lines.{still, buffer-line}
+use Rattle.events.specs.Clear.{handles-at, clear-payload, handle-bytes}
+use Rattle.host.specs.Requests.{build, payload, countable}
+use Rattle.host.specs.Counted.{header-size, count-place, record-size, record-reserved, reserved, first-reserved, counted, verdict}
+use Rattle.host.specs.Replies.{read-timestamp, list-fields, read-poison-list, poison-record, write-bytes}
+use Rattle.host.specs.Walk.{halves, walked, walk}
+use Rattle.host.specs.Walking.{walk-on}
+use Rattle.protocol.specs.HostFormats.{request-head, request-within, request-rest}
+use Rattle.probe.specs.Lines.{still, buffer-line, written-line}
+use Rattle.probe.specs.HostRequests.{request-of, request-built, serve-request}
+use Rattle.probe.specs.HostReplies.{each-of, record-columns, refusal-line, line-of, reply-line, serve-reply}
+use Rattle.probe.specs.HostRewrites.{read-then, written-again, serve-again}
+use Rattle.probe.specs.HostWalks.{serve-walk}
 use Rattle.probe.specs.Calls.{serve-new, serve-command, serve-event, serve-media, serve-line, serve-status, serve-total, serve-record, probe}
 
 -- "NW 0 0; LT at the last line of one unit, and past it; CM 0300h with a room of 0, and of 2,048 bytes of 55h; EV of one byte; MD of type 3; MD address 64, 2 lines,
--- type 1; DT; ES; NW 1 0; DT; PC"
+-- type 1; DT; ES; WK address 0, 4 lines, with a room of 17 bytes of AAh, and of 15; RQ 0100h log 3; RQ 0301h with a room of 7; RQ 0101h log 1 and handles 1, 2;
+-- RW 0300h; RP 0300h of 8 bytes, and of 7; RP 4300h with one record, and with its byte 1 set; NW 1 0; DT; PC"
 input : List ℕ
 input =
     (78 ∷ 87 ∷ 0 ∷ 0 ∷ 0 ∷ 0 ∷ [])
@@ -28,11 +40,23 @@ input =
     ++ (77 ∷ 68 ∷ []) ++ replicate 8 0 ++ (64 ∷ []) ++ replicate 7 0 ++ (2 ∷ 0 ∷ 0 ∷ 0 ∷ 1 ∷ [])
     ++ (68 ∷ 84 ∷ [])
     ++ (69 ∷ 83 ∷ [])
+    ++ (87 ∷ 75 ∷ []) ++ replicate 8 0 ++ (4 ∷ []) ++ replicate 7 0 ++ (17 ∷ 0 ∷ 0 ∷ 0 ∷ 170 ∷ [])
+    ++ (87 ∷ 75 ∷ []) ++ replicate 8 0 ++ (4 ∷ []) ++ replicate 7 0 ++ (15 ∷ 0 ∷ 0 ∷ 0 ∷ 170 ∷ [])
+    ++ (82 ∷ 81 ∷ 0 ∷ 1 ∷ 4 ∷ 0 ∷ 9 ∷ 3 ∷ [])
+    ++ (82 ∷ 81 ∷ 1 ∷ 3 ∷ 7 ∷ 0 ∷ 9 ∷ []) ++ replicate 8 0
+    ++ (82 ∷ 81 ∷ 1 ∷ 1 ∷ 16 ∷ 0 ∷ 9 ∷ 1 ∷ 0 ∷ 2 ∷ 0 ∷ 1 ∷ 0 ∷ 2 ∷ 0 ∷ [])
+    ++ (82 ∷ 87 ∷ 0 ∷ 3 ∷ 0 ∷ 0 ∷ 0 ∷ 0 ∷ 9 ∷ 0 ∷ 5 ∷ 8 ∷ 0 ∷ 1 ∷ 2 ∷ 3 ∷ 4 ∷ 5 ∷ 6 ∷ 7 ∷ 8 ∷ [])
+    ++ (82 ∷ 80 ∷ 0 ∷ 3 ∷ 0 ∷ 0 ∷ 0 ∷ 0 ∷ 8 ∷ 0 ∷ 1 ∷ []) ++ replicate 7 0
+    ++ (82 ∷ 80 ∷ 0 ∷ 3 ∷ 0 ∷ 0 ∷ 0 ∷ 0 ∷ 7 ∷ 0 ∷ []) ++ replicate 7 0
+    ++ (82 ∷ 80 ∷ 0 ∷ 67 ∷ 0 ∷ 0 ∷ 0 ∷ 0 ∷ 48 ∷ 0 ∷ []) ++ replicate 10 0 ++ (1 ∷ []) ++ replicate 21 0 ++ (65 ∷ []) ++ replicate 7 0 ++ (2 ∷ []) ++ replicate 7 0
+    ++ (82 ∷ 80 ∷ 0 ∷ 67 ∷ 0 ∷ 0 ∷ 0 ∷ 0 ∷ 48 ∷ 0 ∷ 0 ∷ 1 ∷ []) ++ replicate 8 0 ++ (1 ∷ []) ++ replicate 21 0 ++ (65 ∷ []) ++ replicate 7 0 ++ (2 ∷ []) ++ replicate 7 0
     ++ (78 ∷ 87 ∷ 1 ∷ 0 ∷ 0 ∷ 0 ∷ [])
     ++ (68 ∷ 84 ∷ [])
     ++ (80 ∷ 67 ∷ [])
 
--- "NW 2", "LT 0 0 0", "LT 15 2 0", "CM 256 0 - 1", "CM 0 8 0000000000000000 1", "EV 22 0", "MD 2 0 0", "MD 0 2 0", "DT 2", "ES 0 0 5", "NW 0", "DT 0", "BAD 132"
+-- "NW 2", "LT 0 0 0", "LT 15 2 0", "CM 256 0 - 1", "CM 0 8 0000000000000000 1", "EV 22 0", "MD 2 0 0", "MD 0 2 0", "DT 2", "ES 0 0 5",
+-- "WK 0 16 41000000000000000200000000000000 1", "WK 256 0 - 1", "RQ 0 1 03 1", "RQ 256 0 - 1", "RQ 0 10 01000200000001000200 1",
+-- "RW 0 8 0102030405060708 1", "RP 0 1", "RP 22", "RP 0 0 0 1 64 1 2", "RP 2 1", "NW 0", "DT 0", "BAD 388"
 output : List ℕ
 output =
     (78 ∷ 87 ∷ 32 ∷ 50 ∷ 10 ∷ [])
@@ -45,11 +69,21 @@ output =
     ++ (77 ∷ 68 ∷ 32 ∷ 48 ∷ 32 ∷ 50 ∷ 32 ∷ 48 ∷ 10 ∷ [])
     ++ (68 ∷ 84 ∷ 32 ∷ 50 ∷ 10 ∷ [])
     ++ (69 ∷ 83 ∷ 32 ∷ 48 ∷ 32 ∷ 48 ∷ 32 ∷ 53 ∷ 10 ∷ [])
+    ++ (87 ∷ 75 ∷ 32 ∷ 48 ∷ 32 ∷ 49 ∷ 54 ∷ 32 ∷ 52 ∷ 49 ∷ 48 ∷ 48 ∷ 48 ∷ 48 ∷ 48 ∷ 48 ∷ 48 ∷ 48 ∷ 48 ∷ 48 ∷ 48 ∷ 48 ∷ 48 ∷ 48 ∷ 48 ∷ 50 ∷ 48 ∷ 48 ∷ 48 ∷ 48 ∷ 48 ∷ 48 ∷ 48 ∷ 48 ∷ 48 ∷ 48 ∷ 48 ∷ 48 ∷ 48 ∷ 48 ∷ 32 ∷ 49 ∷ 10 ∷ [])
+    ++ (87 ∷ 75 ∷ 32 ∷ 50 ∷ 53 ∷ 54 ∷ 32 ∷ 48 ∷ 32 ∷ 45 ∷ 32 ∷ 49 ∷ 10 ∷ [])
+    ++ (82 ∷ 81 ∷ 32 ∷ 48 ∷ 32 ∷ 49 ∷ 32 ∷ 48 ∷ 51 ∷ 32 ∷ 49 ∷ 10 ∷ [])
+    ++ (82 ∷ 81 ∷ 32 ∷ 50 ∷ 53 ∷ 54 ∷ 32 ∷ 48 ∷ 32 ∷ 45 ∷ 32 ∷ 49 ∷ 10 ∷ [])
+    ++ (82 ∷ 81 ∷ 32 ∷ 48 ∷ 32 ∷ 49 ∷ 48 ∷ 32 ∷ 48 ∷ 49 ∷ 48 ∷ 48 ∷ 48 ∷ 50 ∷ 48 ∷ 48 ∷ 48 ∷ 48 ∷ 48 ∷ 48 ∷ 48 ∷ 49 ∷ 48 ∷ 48 ∷ 48 ∷ 50 ∷ 48 ∷ 48 ∷ 32 ∷ 49 ∷ 10 ∷ [])
+    ++ (82 ∷ 87 ∷ 32 ∷ 48 ∷ 32 ∷ 56 ∷ 32 ∷ 48 ∷ 49 ∷ 48 ∷ 50 ∷ 48 ∷ 51 ∷ 48 ∷ 52 ∷ 48 ∷ 53 ∷ 48 ∷ 54 ∷ 48 ∷ 55 ∷ 48 ∷ 56 ∷ 32 ∷ 49 ∷ 10 ∷ [])
+    ++ (82 ∷ 80 ∷ 32 ∷ 48 ∷ 32 ∷ 49 ∷ 10 ∷ [])
+    ++ (82 ∷ 80 ∷ 32 ∷ 50 ∷ 50 ∷ 10 ∷ [])
+    ++ (82 ∷ 80 ∷ 32 ∷ 48 ∷ 32 ∷ 48 ∷ 32 ∷ 48 ∷ 32 ∷ 49 ∷ 32 ∷ 54 ∷ 52 ∷ 32 ∷ 49 ∷ 32 ∷ 50 ∷ 10 ∷ [])
+    ++ (82 ∷ 80 ∷ 32 ∷ 50 ∷ 32 ∷ 49 ∷ 10 ∷ [])
     ++ (78 ∷ 87 ∷ 32 ∷ 48 ∷ 10 ∷ [])
     ++ (68 ∷ 84 ∷ 32 ∷ 48 ∷ 10 ∷ [])
-    ++ (66 ∷ 65 ∷ 68 ∷ 32 ∷ 49 ∷ 51 ∷ 50 ∷ 10 ∷ [])
+    ++ (66 ∷ 65 ∷ 68 ∷ 32 ∷ 51 ∷ 56 ∷ 56 ∷ 10 ∷ [])
 
 -- the definitions give these lines
-example : printed probe 20 (new-device 1 0) 0 input ≡ output
-unfolding printed input output rules numeral columns hex bad-line last-line whole tells front-size fixed head size probe-least probe-fixed probe-size still buffer-line serve-new serve-command serve-event serve-media serve-line serve-status serve-total serve-record
+example : printed probe 30 (new-device 1 0) 0 input ≡ output
+unfolding printed input output rules numeral columns hex bad-line last-line whole tells front-size fixed head size probe-least probe-fixed probe-head probe-within probe-rest probe-size still buffer-line serve-new serve-command serve-event serve-media serve-line serve-status serve-total serve-request serve-walk serve-reply reply-line line-of refusal-line each-of record-columns serve-again written-again read-then read-timestamp write-bytes read-poison-list list-fields poison-record verdict counted first-reserved reserved record-reserved header-size record-size count-place serve-record request-head request-within request-rest written-line request-built request-of build payload countable handles-at clear-payload handle-bytes walk-on walk walked halves
 example = refl

@@ -1,5 +1,6 @@
 -- Each record's call, at the fields read out of its bytes (document 10, "Records of the base"), by the mailbox's own definitions; and what serving it gives:
--- "Every answer is printed whole, also of a refused call". A field stands after the two bytes of the mark. Assumes nothing.
+-- "Every answer is printed whole, also of a refused call". A field stands after the two bytes of the mark. The records of the
+-- host library stand in `HostRequests`, `HostReplies`, `HostRewrites` and `HostWalks`. Assumes nothing.
 use Prim.Native.Nat.{ℕ}
 use mathlib.Core.Bool.{cond}
 use mathlib.Core.List.{List, [], _∷_}
@@ -12,11 +13,15 @@ use Rattle.mailbox.specs.Mailbox.{outcome}
 use Rattle.mailbox.specs.DeviceCalls.{EventOutcome, event-report, event-status, damage-total}
 use Rattle.protocol.specs.declared.formats.Format.the-variants.{Probe}
 use Rattle.protocol.specs.Text.{numbers-line}
-use Rattle.protocol.specs.Records.{mark-of, NW, CM, EV, MD, LT, ES, DT}
+use Rattle.protocol.specs.Records.{mark-of, NW, CM, EV, MD, LT, ES, DT, RQ, RP, RW, WK}
 use Rattle.protocol.specs.Formats.{fixed, head, size}
 use Rattle.protocol.specs.Calls.{new-call, media-call, line-call}
 use Rattle.protocol.specs.Runs.{Printed, Program}
 use Rattle.probe.specs.Lines.{buffer-line}
+use Rattle.probe.specs.HostRequests.{serve-request}
+use Rattle.probe.specs.HostReplies.{serve-reply}
+use Rattle.probe.specs.HostRewrites.{serve-again}
+use Rattle.probe.specs.HostWalks.{serve-walk}
 
 -- `CM` "time 8, opcode 2, room 2, fill 1, length 2, payload"
 abbrev pub command-call : DeviceState → List ℕ → Outcome
@@ -69,7 +74,11 @@ serve-record d r =
     (cond (eqb (mark-of r) (mark-of MD)) (serve-media d r)
     (cond (eqb (mark-of r) (mark-of LT)) (serve-line d r)
     (cond (eqb (mark-of r) (mark-of ES)) (serve-status d)
-    (cond (eqb (mark-of r) (mark-of DT)) (serve-total d) (record { line = []; next = d })))))))
+    (cond (eqb (mark-of r) (mark-of DT)) (serve-total d)
+    (cond (eqb (mark-of r) (mark-of RQ)) (serve-request d r)
+    (cond (eqb (mark-of r) (mark-of RP)) (serve-reply d r)
+    (cond (eqb (mark-of r) (mark-of RW)) (serve-again d r)
+    (cond (eqb (mark-of r) (mark-of WK)) (serve-walk d r) (record { line = []; next = d })))))))))))
 
 -- the program
 abbrev pub probe : Program DeviceState

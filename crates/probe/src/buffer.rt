@@ -2,11 +2,14 @@
 use protocol::output;
 ghost use mathlib.Core.Path.{_≡_};
 ghost use mathlib.Core.List.{[], _∷_};
-ghost use Prim.Native.Nat.{_+_, _≤_};
+ghost use Prim.Native.Nat.{_+_, _*_, _≤_};
 ghost use lib.ListN.{length, take, drop, replicate};
 ghost use Rattle.protocol.specs.Text.{bytes-column};
 ghost use Rattle.protocol.specs.Contracts.{Puts, PutsLine};
-ghost use Rattle.probe.specs.Lines.{minus, still, buffer-line};
+ghost use Rattle.probe.specs.Lines.{minus, still, buffer-line, line-room};
+
+// The room that a line can take.
+pub(crate) const LINE_ROOM: usize = 20000;
 
 // Sets every byte.
 pub(crate) fn fill(buffer: &mut [u8], byte: u8)
@@ -35,8 +38,8 @@ fn kept(buffer: &[u8], n: usize, byte: u8) -> bool
 }
 
 // A column: a space and the first n bytes in hexadecimal, or a minus sign where there are none.
-fn put_some(out: &mut [u8], at: usize, bytes: &[u8], n: usize) -> usize
-    requires { ⌜ (n ≤ length (now bytes)) × (n ≤ 4096) × (at + 8194 ≤ length (now out)) ⌝ }
+pub(crate) fn put_some(out: &mut [u8], at: usize, bytes: &[u8], n: usize) -> usize
+    requires { ⌜ (n ≤ length (now bytes)) × (at + 2 + 2 * n ≤ length (now out)) ⌝ }
     ensures { λ r. ⌜ Puts at (bytes-column minus (take n (now (bytes .entry)))) (now (out .entry)) (now (out .exit)) r ⌝ }
 {
     if n == 0 {
@@ -58,7 +61,7 @@ pub(crate) fn put_line(
     n: usize,
     byte: u8,
 ) -> usize
-    requires { ⌜ (n ≤ length (now buffer)) × (length (now buffer) ≤ 4096) × (used + 8400 ≤ length (now out)) ⌝ }
+    requires { ⌜ (n ≤ length (now buffer)) × (n ≤ 5120) × (used + line-room ≤ length (now out)) ⌝ }
     ensures { λ r. ⌜ PutsLine used (buffer-line (first ∷ second ∷ []) code n byte (now (buffer .entry))) (now (out .entry)) (now (out .exit)) r ⌝ }
 {
     let number = code as u64;

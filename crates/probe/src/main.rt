@@ -2,14 +2,18 @@
 // answer. One record is in memory at a time; the input may have any length. That it is safe and ends is proved, and so is every record's call and line; what the
 // system's calls read and write is tested.
 mod buffer;
+mod replies;
+mod requests;
+mod rewrites;
 mod serve;
+mod walks;
 
 use protocol::stream;
 
 fn main() {
     let mut input = io::large_buffer();
     let mut out = io::large_buffer();
-    let mut reply = [0u8; 4096];
+    let mut reply = io::large_buffer();
     let used = serve::run(&mut input, &mut out, &mut reply);
     stream::flush(&out, used);
 }

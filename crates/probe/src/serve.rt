@@ -1,5 +1,11 @@
 // Each record given to the device, and its line printed (document 10, "Records of the base"). A record's function gives the device that follows.
+// The records of the host library have modules of their own.
 use crate::buffer;
+use crate::buffer::LINE_ROOM;
+use crate::replies;
+use crate::requests;
+use crate::rewrites;
+use crate::walks;
 use mailbox::device::Answer;
 use mailbox::device::Device;
 use mailbox::device_calls::EventAnswer;
@@ -20,15 +26,15 @@ ghost use Rattle.mailbox.specs.State.{ValidDevice, state-of};
 ghost use Rattle.mailbox.specs.Contracts.{Answered, EventDone};
 ghost use Rattle.mailbox.specs.DeviceCalls.{new-device};
 ghost use Rattle.protocol.specs.Stream.{unread};
-ghost use Rattle.protocol.specs.Records.{mark-of, CM};
-ghost use Rattle.protocol.specs.Formats.{probe-least};
+ghost use Rattle.protocol.specs.Formats.{Ready};
 ghost use Rattle.protocol.specs.Contracts.{Serves};
 ghost use Rattle.protocol.specs.Runs.{machine-of, Ends};
+ghost use Rattle.probe.specs.Lines.{line-room};
 ghost use Rattle.probe.specs.Calls.{command-call, filled, event-call, serve-new, serve-command, serve-event, serve-media, serve-line, serve-status, serve-total, serve-record, probe};
 
 // NW (volatile 2, persistent 2): the device made takes the place of the old one, also where it stands beside a refusal.
 fn make(bytes: &[u8], out: &mut [u8], used: usize) -> Served
-    requires { ⌜ (6 ≤ length (now bytes)) × (used + 8400 ≤ length (now out)) ⌝ }
+    requires { ⌜ (6 ≤ length (now bytes)) × (used + line-room ≤ length (now out)) ⌝ }
     ensures { λ r. ⌜ Serves (serve-new (now (bytes .entry))) used r (now (out .entry)) (now (out .exit)) ⌝ }
 {
     let made = calls::make(bytes);
@@ -55,7 +61,7 @@ fn call_command(device: Device, bytes: &[u8], reply: &mut [u8]) -> Answer
 
 // CM: the return number, and what came back in the buffer.
 fn command(device: Device, bytes: &[u8], reply: &mut [u8], out: &mut [u8], used: usize) -> Served
-    requires { ⌜ ValidDevice device × (17 ≤ length (now bytes)) × (length (now reply) ≡ field (now bytes) 12 2) × (field (now bytes) 12 2 ≤ 4096) × (used + 8400 ≤ length (now out)) ⌝ }
+    requires { ⌜ ValidDevice device × (17 ≤ length (now bytes)) × (length (now reply) ≡ field (now bytes) 12 2) × (field (now bytes) 12 2 ≤ 4096) × (used + line-room ≤ length (now out)) ⌝ }
     ensures { λ r. ⌜ Serves (serve-command (state-of device) (now (bytes .entry))) used r (now (out .entry)) (now (out .exit)) ⌝ }
 {
     let answer = call_command(device, bytes, reply);
@@ -87,7 +93,7 @@ fn call_event(device: Device, bytes: &[u8]) -> EventAnswer
 
 // EV: the return number, and stored or not.
 fn event(device: Device, bytes: &[u8], out: &mut [u8], used: usize) -> Served
-    requires { ⌜ ValidDevice device × (13 ≤ length (now bytes)) × (used + 8400 ≤ length (now out)) ⌝ }
+    requires { ⌜ ValidDevice device × (13 ≤ length (now bytes)) × (used + line-room ≤ length (now out)) ⌝ }
     ensures { λ r. ⌜ Serves (serve-event (state-of device) (now (bytes .entry))) used r (now (out .entry)) (now (out .exit)) ⌝ }
 {
     let answer = call_event(device, bytes);
@@ -104,7 +110,7 @@ fn event(device: Device, bytes: &[u8], out: &mut [u8], used: usize) -> Served
 
 // MD: the return number, and how many lines were stored and dropped.
 fn media(device: Device, bytes: &[u8], out: &mut [u8], used: usize) -> Served
-    requires { ⌜ ValidDevice device × (23 ≤ length (now bytes)) × (used + 8400 ≤ length (now out)) ⌝ }
+    requires { ⌜ ValidDevice device × (23 ≤ length (now bytes)) × (used + line-room ≤ length (now out)) ⌝ }
     ensures { λ r. ⌜ Serves (serve-media (state-of device) (now (bytes .entry))) used r (now (out .entry)) (now (out .exit)) ⌝ }
 {
     let answer = calls::media(device, bytes);
@@ -122,7 +128,7 @@ fn media(device: Device, bytes: &[u8], out: &mut [u8], used: usize) -> Served
 
 // LT: the return number, the answer's number and the type.
 fn line(device: Device, bytes: &[u8], out: &mut [u8], used: usize) -> Served
-    requires { ⌜ ValidDevice device × (10 ≤ length (now bytes)) × (used + 8400 ≤ length (now out)) ⌝ }
+    requires { ⌜ ValidDevice device × (10 ≤ length (now bytes)) × (used + line-room ≤ length (now out)) ⌝ }
     ensures { λ r. ⌜ Serves (serve-line (state-of device) (now (bytes .entry))) used r (now (out .entry)) (now (out .exit)) ⌝ }
 {
     let told = calls::line(device, bytes);
@@ -137,7 +143,7 @@ fn line(device: Device, bytes: &[u8], out: &mut [u8], used: usize) -> Served
 
 // ES: which logs are waiting, how many, and the highest.
 fn status(device: Device, out: &mut [u8], used: usize) -> Served
-    requires { ⌜ ValidDevice device × (used + 8400 ≤ length (now out)) ⌝ }
+    requires { ⌜ ValidDevice device × (used + line-room ≤ length (now out)) ⌝ }
     ensures { λ r. ⌜ Serves (serve-status (state-of device)) used r (now (out .entry)) (now (out .exit)) ⌝ }
 {
     let told = device.event_status();
@@ -151,7 +157,7 @@ fn status(device: Device, out: &mut [u8], used: usize) -> Served
 
 // DT: the sum of entry lengths.
 fn total(device: Device, out: &mut [u8], used: usize) -> Served
-    requires { ⌜ ValidDevice device × (used + 8400 ≤ length (now out)) ⌝ }
+    requires { ⌜ ValidDevice device × (used + line-room ≤ length (now out)) ⌝ }
     ensures { λ r. ⌜ Serves (serve-total (state-of device)) used r (now (out .entry)) (now (out .exit)) ⌝ }
 {
     let sum = device.damage_total();
@@ -160,9 +166,9 @@ fn total(device: Device, out: &mut [u8], used: usize) -> Served
     Served { used: end, device }
 }
 
-// Serves a record by its mark. A command is lent as much of the buffer as it asks for.
+// Serves a record by its mark. A call is lent as much of the buffer as the record asks for.
 fn serve(device: Device, bytes: &[u8], reply: &mut [u8], out: &mut [u8], used: usize) -> Served
-    requires { ⌜ ValidDevice device × (2 ≤ length (now bytes)) × (probe-least (mark-of (now bytes)) ≤ length (now bytes)) × (mark-of (now bytes) ≡ mark-of CM → field (now bytes) 12 2 ≤ 4096) × (length (now reply) ≡ 4096) × (used + 8400 ≤ length (now out)) ⌝ }
+    requires { ⌜ ValidDevice device × Ready (now bytes) × (length (now reply) ≡ 65536) × (used + line-room ≤ length (now out)) ⌝ }
     ensures { λ r. ⌜ Serves (serve-record (state-of device) (now (bytes .entry))) used r (now (out .entry)) (now (out .exit)) ⌝ }
 {
     match mark(bytes) {
@@ -176,6 +182,19 @@ fn serve(device: Device, bytes: &[u8], reply: &mut [u8], out: &mut [u8], used: u
         0x4C54 => line(device, bytes, out, used), // LT
         0x4553 => status(device, out, used), // ES
         0x4454 => total(device, out, used), // DT
+        0x5251 => { // RQ
+            let room = wire::get(bytes, 4, 2) as usize;
+            requests::request(device, bytes, &mut reply[..room], out, used)
+        }
+        0x5250 => replies::read_reply(device, bytes, out, used), // RP
+        0x5257 => { // RW
+            let room = wire::get(bytes, 8, 2) as usize;
+            rewrites::again(device, bytes, &mut reply[..room], out, used)
+        }
+        0x574B => { // WK
+            let room = wire::get(bytes, 18, 4) as usize;
+            walks::walk(device, bytes, &mut reply[..room], out, used)
+        }
         _ => Served { used, device },
     }
 }
@@ -183,7 +202,7 @@ fn serve(device: Device, bytes: &[u8], reply: &mut [u8], out: &mut [u8], used: u
 // Serves the records: how many bytes of the output buffer are not written yet. The first record is a make, so that the device before it serves none. A proved
 // loop has to end: it does at an offset that no input reaches.
 pub(crate) fn run(input: &mut [u8], out: &mut [u8], reply: &mut [u8]) -> usize
-    requires { ⌜ (length (now input) ≡ 65536) × (length (now out) ≡ 65536) × (length (now reply) ≡ 4096) ⌝ }
+    requires { ⌜ (length (now input) ≡ 65536) × (length (now out) ≡ 65536) × (length (now reply) ≡ 65536) ⌝ }
     ensures { λ r. ⌜ (r ≤ 65536) × Ends probe (machine-of (new-device 1 0) unread (now (input .entry)) (now (out .entry))) r (now (out .exit)) ⌝ }
 {
     let made = Device::make(1, 0);
@@ -192,7 +211,7 @@ pub(crate) fn run(input: &mut [u8], out: &mut [u8], reply: &mut [u8]) -> usize
     while s.offset < 9223372036854775808 {
         let found = formats::next(Format::Probe, s, input, out);
         let here = found.stream;
-        let used = stream::make_room(out, here.used, 8400);
+        let used = stream::make_room(out, here.used, LINE_ROOM);
         let at = here.at;
         if found.size == 0 {
             return output::stop(out, used, here.end - at, here.offset);

@@ -7,8 +7,9 @@ pub use Rattle.protocol.proofs.Printing.{puts-nothing, puts-two, puts-t
 -- A reading that gives a size looks at no byte past it, and so a record found is one whole record; it has its mark.
 pub use Rattle.protocol.proofs.RecordLaws.{local-front, one-record, mark-there, unread-fits}
 -- The sizes of either format make such a reading. A first record found is a make; a record found has the fields of its mark; no later record of `bench` has
--- another mark than its four; a record found of `probe` has its mark and its fields, and a command's room within its limit.
-pub use Rattle.protocol.proofs.FormatLaws.{sized, first-make, new-there, fields-there, bench-marks, ready}
+-- another mark than its four; a record found of `probe` has its mark and its fields, with its rooms and lengths within their limits; no opcode but the twelve has a
+-- request.
+pub use Rattle.protocol.proofs.FormatLaws.{sized, first-make, new-there, fields-there, bench-marks, ready, request-none}
 -- The turns of a loop are steps of a run: a record served, the end, an offset that no input reaches; and what was printed before a run.
 pub use Rattle.protocol.proofs.RunLaws.{with-used, turn-served, turn-ends, run-far, text-after, length-taken}
 -- Before a loop: nothing found is no record, for good; how many bytes are left.

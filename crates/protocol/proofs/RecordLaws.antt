@@ -5,7 +5,7 @@ use mathlib.Core.Logic.{⊎-elim, inl, inr}
 use mathlib.Core.List.{List, [], _++_, append-nil}
 use Prim.Native.Nat.{ℕ, _*_, _+_, _-_, _≤_, _<_}
 use native.Mathlib.Omega.{arith}
-use native.Mathlib.Decide.{decLe}
+use native.Mathlib.Decide.{decLe, ℕ-discrete}
 use lib.ListN.{length, take, drop, length-take, length-append}
 use lib.Seq.{take-take, getD-take}
 use borrow.Author.Tests.{eq-eqb, ne-eqb, le-leb, lt-leb}
@@ -103,7 +103,7 @@ mark-front n r h = ap₂ (λ (a b : ℕ). a * 256 + b) (getD-take n r 0 0 (omega
 -- a program's sizes: a fixed part holds the mark, a head its fixed part, and a record its head
 pub record Sized (fixed : ℕ → ℕ) (head size : List ℕ → ℕ) : Type 0 where
   pub marked : (m : ℕ) → (fixed m ≡ 0 → ⊥) → 2 ≤ fixed m
-  pub headed : (h : List ℕ) → (head h ≡ 0 → ⊥) → length h ≤ head h
+  pub headed : (h : List ℕ) → fixed (mark-of h) ≡ length h → (head h ≡ 0 → ⊥) → length h ≤ head h
   pub sized : (h : List ℕ) → (size h ≡ 0 → ⊥) → length h ≤ size h
 
 -- what the fixed part of a record tells, where its head has so many bytes
@@ -116,21 +116,44 @@ pub record Parts (fixed : ℕ → ℕ) (head size : List ℕ → ℕ) (r : List 
   pub all : size (take count r) ≡ length r
 
 module _ (fixed : ℕ → ℕ) (head size : List ℕ → ℕ) (sized : Sized fixed head size) where
-  -- what some bytes tell, told of as many as they are
-  grown : (f g : List ℕ → ℕ) → ((h : List ℕ) → (f h ≡ 0 → ⊥) → length h ≤ f h) → (l : List ℕ) → g l ≤ length l → (f (take (g l) l) ≡ 0 → ⊥) → g l ≤ f (take (g l) l)
-  grown f g holds l fits some = let long : length (take (g l) l) ≡ g l = rw length-take (omega arith) in omega (arith, long, holds (take (g l) l) some)
-
   pub local-fixed : Local (front-fixed fixed)
   unfolding front-fixed
   local-fixed = local-tells (λ h. fixed (mark-of h)) (λ _. 2) (λ l _ some. sized .marked (mark-of (take 2 l)) some) (local-whole 2)
 
   pub local-head : Local (front-head fixed head)
   unfolding front-head front-fixed
-  local-head = local-tells head (told-fixed fixed) (grown head (told-fixed fixed) (sized .headed)) local-fixed
+  local-head = local-tells head (told-fixed fixed) grown local-fixed
+    where
+      -- a head holds its fixed part, which the mark tells of
+      grown : (l : List ℕ) → told-fixed fixed l ≤ length l → (head (take (told-fixed fixed l) l) ≡ 0 → ⊥) → told-fixed fixed l ≤ head (take (told-fixed fixed l) l)
+      grown l fits some = go (ℕ-discrete (whole 2 l) 0)
+        where
+          n : ℕ
+          n = told-fixed fixed l
+
+          go : Dec (whole 2 l ≡ 0) → n ≤ head (take n l)
+          go (yes none) = omega (arith, tells-none (λ h. fixed (mark-of h)) 2 l none)
+          go (no more) = more-of (ℕ-discrete n 0)
+            where
+              long : length (take n l) ≡ n
+              long = rw length-take (omega arith)
+
+              told : n ≡ fixed (mark-of (take 2 l))
+              told = tells-told (λ h. fixed (mark-of h)) 2 l more
+
+              more-of : Dec (n ≡ 0) → n ≤ head (take n l)
+              more-of (yes none) = omega (arith, none)
+              more-of (no wide) =
+                  let two : 2 ≤ n = omega (arith, told, sized .marked (mark-of (take 2 l)) (λ e. wide (told ∙ e))) in
+                  let same : fixed (mark-of (take n l)) ≡ length (take n l) = ap fixed (mark-front n l two ∙ sym (mark-front 2 l (omega arith))) ∙ sym told ∙ sym long in
+                  omega (arith, long, sized .headed (take n l) same some)
 
   pub local-front : Local (front-size fixed head size)
   unfolding front-size front-head
-  local-front = local-tells size (told-head fixed head) (grown size (told-head fixed head) (sized .sized)) local-head
+  local-front =
+      local-tells size (told-head fixed head)
+      (λ l fits some. let long : length (take (told-head fixed head l) l) ≡ told-head fixed head l = rw length-take (omega arith) in omega (arith, long, sized .sized (take (told-head fixed head l) l) some))
+      local-head
 
   -- a fixed part: of a mark that may stand there
   pub fixed-part : (r : List ℕ) → OneRecord (front-fixed fixed) r → (fixed (mark-of r) ≡ 0 → ⊥) × (fixed (mark-of r) ≡ length r)

@@ -10,7 +10,8 @@ use Rattle.protocol.specs.declared.formats.Format.{Format}
 use Rattle.protocol.specs.declared.formats.Format.the-variants.{Bench, Probe}
 use Rattle.protocol.specs.Text.{numeral, decimal, hex, columns, numbers-line, bad-line, last-line}
 use Rattle.protocol.specs.Records.{NW, whole, tells, front-size}
-use Rattle.protocol.specs.Formats.{bench-fixed, bench-size, probe-least, probe-fixed, probe-size, fixed, head, size}
+use Rattle.protocol.specs.Formats.{bench-fixed, bench-size, probe-least, probe-fixed, probe-head, probe-within, probe-rest, probe-size, fixed, head, size}
+use Rattle.protocol.specs.HostFormats.{request-head, request-within, request-rest}
 
 -- 0, 9, 10, 258
 numbers : decimal 0 ++ decimal 9 ++ decimal 10 ++ decimal 258 ≡ 48 ∷ 57 ∷ 49 ∷ 48 ∷ 50 ∷ 53 ∷ 56 ∷ []
@@ -82,5 +83,33 @@ probe-sizes =
     ∷ []
 
 probe-records : probe-sizes ≡ 6 ∷ 6 ∷ 0 ∷ 10 ∷ 18 ∷ 0 ∷ 0 ∷ 16 ∷ 0 ∷ 2 ∷ 2 ∷ 0 ∷ []
-unfolding read probe-sizes front-size tells whole fixed head size probe-least probe-fixed probe-size field number part
+unfolding read probe-sizes front-size tells whole fixed head size probe-least probe-fixed probe-head probe-within probe-rest probe-size field number part
 probe-records = refl
+
+-- of the host library's records: RQ 0100h with its log, and cut; 0101h with two handles, a handle cut, and 1,001 of them; 0103h with four settings, and with six;
+-- 4302h; an opcode that is none of the twelve; a room of 4,097. RP of two bytes, of 4,097, of an unknown opcode; RW of one byte, and with a room of 4,097; WK with a
+-- room of 65,536, and of one more
+host-sizes : List ℕ
+host-sizes =
+    read Probe false (82 ∷ 81 ∷ 0 ∷ 1 ∷ 0 ∷ 16 ∷ 9 ∷ 4 ∷ 7 ∷ [])
+    ∷ read Probe false (82 ∷ 81 ∷ 0 ∷ 1 ∷ 0 ∷ 16 ∷ 9 ∷ [])
+    ∷ read Probe false (82 ∷ 81 ∷ 1 ∷ 1 ∷ 0 ∷ 16 ∷ 9 ∷ 4 ∷ 0 ∷ 2 ∷ 0 ∷ 1 ∷ 0 ∷ 2 ∷ 0 ∷ 7 ∷ [])
+    ∷ read Probe false (82 ∷ 81 ∷ 1 ∷ 1 ∷ 0 ∷ 16 ∷ 9 ∷ 4 ∷ 0 ∷ 2 ∷ 0 ∷ 1 ∷ 0 ∷ 2 ∷ [])
+    ∷ read Probe false (82 ∷ 81 ∷ 1 ∷ 1 ∷ 0 ∷ 16 ∷ 9 ∷ 4 ∷ 0 ∷ 233 ∷ 3 ∷ replicate 2002 0)
+    ∷ read Probe false (82 ∷ 81 ∷ 3 ∷ 1 ∷ 0 ∷ 16 ∷ 9 ∷ 4 ∷ replicate 4 0)
+    ∷ read Probe false (82 ∷ 81 ∷ 3 ∷ 1 ∷ 0 ∷ 16 ∷ 9 ∷ 6 ∷ replicate 6 0)
+    ∷ read Probe false (82 ∷ 81 ∷ 2 ∷ 67 ∷ 0 ∷ 0 ∷ 9 ∷ replicate 72 0)
+    ∷ read Probe false (82 ∷ 81 ∷ 1 ∷ 64 ∷ 0 ∷ 0 ∷ 9 ∷ replicate 72 0)
+    ∷ read Probe false (82 ∷ 81 ∷ 0 ∷ 1 ∷ 1 ∷ 16 ∷ 9 ∷ 4 ∷ [])
+    ∷ read Probe false (82 ∷ 80 ∷ 0 ∷ 3 ∷ 0 ∷ 0 ∷ 0 ∷ 0 ∷ 2 ∷ 0 ∷ 7 ∷ 7 ∷ [])
+    ∷ read Probe false (82 ∷ 80 ∷ 0 ∷ 3 ∷ 0 ∷ 0 ∷ 0 ∷ 0 ∷ 1 ∷ 16 ∷ replicate 4097 0)
+    ∷ read Probe false (82 ∷ 80 ∷ 3 ∷ 3 ∷ 0 ∷ 0 ∷ 0 ∷ 0 ∷ 2 ∷ 0 ∷ 7 ∷ 7 ∷ [])
+    ∷ read Probe false (82 ∷ 87 ∷ 0 ∷ 3 ∷ 0 ∷ 0 ∷ 0 ∷ 0 ∷ 0 ∷ 16 ∷ 9 ∷ 1 ∷ 0 ∷ 7 ∷ [])
+    ∷ read Probe false (82 ∷ 87 ∷ 0 ∷ 3 ∷ 0 ∷ 0 ∷ 0 ∷ 0 ∷ 1 ∷ 16 ∷ 9 ∷ 1 ∷ 0 ∷ 7 ∷ [])
+    ∷ read Probe false (87 ∷ 75 ∷ replicate 16 0 ++ (0 ∷ 0 ∷ 1 ∷ 0 ∷ 9 ∷ []))
+    ∷ read Probe false (87 ∷ 75 ∷ replicate 16 0 ++ (1 ∷ 0 ∷ 1 ∷ 0 ∷ 9 ∷ []))
+    ∷ []
+
+host-records : host-sizes ≡ 8 ∷ 0 ∷ 15 ∷ 0 ∷ 0 ∷ 12 ∷ 0 ∷ 79 ∷ 0 ∷ 0 ∷ 12 ∷ 0 ∷ 0 ∷ 14 ∷ 0 ∷ 23 ∷ 0 ∷ []
+unfolding read host-sizes front-size tells whole fixed head size probe-least probe-fixed probe-head probe-within probe-rest probe-size request-head request-within request-rest field number part
+host-records = refl

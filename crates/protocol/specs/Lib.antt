@@ -2,6 +2,7 @@
 pub mod Text
 pub mod Stream
 pub mod Records
+pub mod HostFormats
 pub mod Formats
 pub mod Calls
 pub mod Runs

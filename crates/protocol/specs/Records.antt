@@ -34,6 +34,18 @@ ES = 69 ∷ 83 ∷ []
 abbrev pub DT : List ℕ
 DT = 68 ∷ 84 ∷ []
 
+abbrev pub RQ : List ℕ
+RQ = 82 ∷ 81 ∷ []
+
+abbrev pub RP : List ℕ
+RP = 82 ∷ 80 ∷ []
+
+abbrev pub RW : List ℕ
+RW = 82 ∷ 87 ∷ []
+
+abbrev pub WK : List ℕ
+WK = 87 ∷ 75 ∷ []
+
 -- n bytes at the front, or 0 where they are cut
 unfoldable pub whole : ℕ → List ℕ → ℕ
 whole n r = cond (leb n (length r)) n 0

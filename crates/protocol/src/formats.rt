@@ -1,5 +1,6 @@
 // The records of each program (document 01, "Bench program"; document 10, "Records of the base"): how long each is, and the next one brought whole into
-// the input buffer.
+// the input buffer. The sizes of the records of the host library are in `host_formats`.
+use crate::host_formats;
 use crate::records;
 use crate::records::Found;
 use crate::stream::Stream;
@@ -10,7 +11,7 @@ ghost use lib.ListN.{length};
 ghost use Rattle.protocol.specs.declared.formats.Format.the-variants.{Bench, Probe};
 ghost use Rattle.protocol.specs.Stream.{Fits};
 ghost use Rattle.protocol.specs.Records.{mark-of, CM, EV, front-fixed, front-head, front-size};
-ghost use Rattle.protocol.specs.Formats.{bench-fixed, bench-size, probe-least, probe-fixed, probe-size, fixed, head, size, Head};
+ghost use Rattle.protocol.specs.Formats.{bench-fixed, bench-size, probe-least, probe-fixed, probe-size, fixed, head, size, FixedPart, Head};
 ghost use Rattle.protocol.specs.Contracts.{Finds};
 
 // Whose records they are.
@@ -63,6 +64,10 @@ fn probe_least(mark: u64) -> usize
         0x4C54 => 10, // LT
         0x4553 => 2, // ES
         0x4454 => 2, // DT
+        0x5251 => 7, // RQ
+        0x5250 => 10, // RP
+        0x5257 => 13, // RW
+        0x574B => 23, // WK
         _ => 0,
     }
 }
@@ -113,6 +118,10 @@ fn probe_size(head: &[u8]) -> usize
     match records::mark(head) {
         0x434D => command_size(head), // CM
         0x4556 => event_size(head), // EV
+        0x5251 => host_formats::request_size(head), // RQ
+        0x5250 => host_formats::reply_size(head), // RP
+        0x5257 => host_formats::again_size(head), // RW
+        0x574B => host_formats::walk_size(head), // WK
         _ => head.len(),
     }
 }
@@ -129,12 +138,12 @@ fn fixed_size(format: Format, first: bool, mark: u64) -> usize
 
 // The bytes of the head of a record that begins so.
 fn head_size(format: Format, part: &[u8]) -> usize
-    requires { ⌜ Head format (now part) ⌝ }
+    requires { ⌜ FixedPart format (now part) ⌝ }
     ensures { λ r. ⌜ (r ≡ head format (now (part .entry))) × (r ≤ 65536) ⌝ }
 {
     match format {
         Format::Bench => part.len(),
-        Format::Probe => part.len(),
+        Format::Probe => host_formats::probe_head(part),
     }
 }
 

@@ -2,6 +2,7 @@
 // the records of both found there, the text put there, and the calls of the records that both have alike. Each program adds its other calls and its lines.
 pub mod calls;
 pub mod formats;
+mod host_formats;
 pub mod output;
 pub mod records;
 pub mod stream;

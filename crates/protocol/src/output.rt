@@ -44,6 +44,20 @@ pub fn put_bytes(out: &mut [u8], at: usize, bytes: &[u8], n: usize) -> usize
     at + 1 + 2 * n
 }
 
+// A column for each number.
+pub fn put_each(out: &mut [u8], at: usize, numbers: &[u64]) -> usize
+    requires { ⌜ at + 21 * length (now numbers) ≤ length (now out) ⌝ }
+    ensures { λ r. ⌜ Puts at (columns (now (numbers .entry))) (now (out .entry)) (now (out .exit)) r ⌝ }
+{
+    let mut to = at;
+    let mut i: usize = 0;
+    while i < numbers.len() {
+        to = put_number(out, to, numbers[i]);
+        i += 1;
+    }
+    to
+}
+
 // A line's start: the mark's two letters, and a column for each number.
 pub fn put_columns(out: &mut [u8], at: usize, first: u8, second: u8, numbers: &[u64]) -> usize
     requires { ⌜ at + 2 + 21 * length (now numbers) ≤ length (now out) ⌝ }
@@ -51,13 +65,7 @@ pub fn put_columns(out: &mut [u8], at: usize, first: u8, second: u8, numbers: &[
 {
     out[at] = first;
     out[at + 1] = second;
-    let mut to = at + 2;
-    let mut i: usize = 0;
-    while i < numbers.len() {
-        to = put_number(out, to, numbers[i]);
-        i += 1;
-    }
-    to
+    put_each(out, at + 2, numbers)
 }
 
 // A line of numbers.

@@ -16,14 +16,14 @@ columned c =
     let a = c .before .before .before .before .before .args in
     omega (arith, c .put-columns .ensures .end, length-columns (a .code ∷ a .n ∷ []))
 
-told : (c : tie.After-put-some) → c .put-some .result ≤ c .before .before .before .before .before .before .before .before .before .args .used + 8239
+told : (c : tie.After-put-some) → c .put-some .result ≤ c .before .before .before .before .before .before .before .before .before .args .used + 10287
 told c =
     let s = c .before .before .before .before .before .before .before .before .before in
     let taken : length (take (s .args .n) (s .args .buffer .now)) ≡ s .args .n = rw length-take (omega (arith, s .pre .0)) in
     omega (arith, c .put-some .ensures .end, length-bytes-column (32 ∷ 45 ∷ []) (take (s .args .n) (s .args .buffer .now)), taken, s .pre .0, s .pre .1, columned (c .before .before .before .before))
 
 -- how long the output buffer is
-wide : (c : tie.After-put-some) → c .before .before .before .before .before .before .before .before .before .args .used + 8400 ≤ length (c .put-some .last .0)
+wide : (c : tie.After-put-some) → c .before .before .before .before .before .before .before .before .before .args .used + 20000 ≤ length (c .put-some .last .0)
 wide c = omega (arith, c .put-some .kept .0, c .before .before .before .before .put-columns .kept .0, c .before .before .before .before .before .before .before .before .before .pre .2)
 
 slice-aggregate-put-columns : tie.Need-slice-aggregate-put-columns
@@ -36,7 +36,7 @@ put-some-requires : tie.Need-put-some-requires
 put-some-requires c κs =
     let s = c .before .before .before .before .before .before .before .before in
     let p = c .before .before .before in
-    (s .pre .0, omega (arith, s .pre .0, s .pre .1), omega (arith, columned p, p .put-columns .kept .0, s .pre .2))
+    (s .pre .0, omega (arith, columned p, p .put-columns .kept .0, s .pre .1, s .pre .2))
 
 kept-requires : tie.Need-kept-requires
 kept-requires c κs = search needs

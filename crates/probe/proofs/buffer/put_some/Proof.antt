@@ -26,7 +26,7 @@ same-length c = search needs
 returns : tie.Need-returns
 returns c =
     let s = c .before .before .before in
-    puts-as (puts-two (s .args .at) 32 45 (s .args .out .now) (omega (arith, s .pre .2))) (sym (no-bytes (s .args .n) (s .args .bytes .now) (c .if1 .taken)))
+    puts-as (puts-two (s .args .at) 32 45 (s .args .out .now) (omega (arith, s .pre .1))) (sym (no-bytes (s .args .n) (s .args .bytes .now) (c .if1 .taken)))
 
 put-bytes-requires : tie.Need-put-bytes-requires
 put-bytes-requires c κs = search needs

@@ -17,7 +17,8 @@ put-line-requires c κs =
     let s = c .before .before .before .before .before .before .before .before .before .before in
     let k = c .before .before .before .before .before in
     let told = k .call-command in
-    (reply-fits (told .ensures) (filled-long (s .args .bytes .now) (told .last .1 .1 .0) (omega (arith, told .kept .1 .1 .0, s .pre .2))), omega (arith, told .kept .1 .1 .0, s .pre .2, s .pre .3), s .pre .4)
+    let fits = reply-fits (told .ensures) (filled-long (s .args .bytes .now) (told .last .1 .1 .0) (omega (arith, told .kept .1 .1 .0, s .pre .2))) in
+    (fits, omega (arith, fits, told .kept .1 .1 .0, s .pre .2, s .pre .3), s .pre .4)
 
 same-length : tie.Need-same-length
 same-length c = search needs

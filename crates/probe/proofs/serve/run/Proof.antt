@@ -22,7 +22,7 @@ use Rattle.probe.proofs.serve.run.Tie as tie
 
 abbrev Inv-loop : tie.InvT-loop
 Inv-loop input₀ out₀ reply₀ device₀ s₀ input out reply device s =
-    (length input ≡ 65536) × (length out ≡ 65536) × (length reply ≡ 4096) × ValidDevice device × Fits s
+    (length input ≡ 65536) × (length out ≡ 65536) × (length reply ≡ 65536) × ValidDevice device × Fits s
     × Steps probe (machine-of (state-of device₀) s₀ input₀ out₀) (machine-of (state-of device) s input out)
 
 abbrev μ-loop : tie.MeasureT-loop
@@ -32,7 +32,7 @@ abbrev μ-loop : tie.MeasureT-loop
 long : (k : tie.After-next Inv-loop μ-loop) → length (k .next .last .1 .1 .0) ≡ 65536
 long k = omega (arith, k .next .kept, k .before .before .before .before .before .loop .inv .0)
 
-roomy : (k : tie.After-make-room Inv-loop μ-loop) → k .make-room .result + 8400 ≤ length (k .before .before .before .before .before .before .before .before .before .before .loop .out)
+roomy : (k : tie.After-make-room Inv-loop μ-loop) → k .make-room .result + 20000 ≤ length (k .before .before .before .before .before .before .before .before .before .before .loop .out)
 roomy k = omega (arith, k .make-room .ensures .1, k .before .before .before .before .before .before .before .before .before .before .loop .inv .1)
 
 -- the places that a turn has passed where a record was found: the loop, what was found, the room made for a line
@@ -94,7 +94,7 @@ returns c =
     let l = c .before .before .before .before .before .before .before .before .before .before .before .before .before .before .before .before .before .loop in
     let found = c .before .before .before .before .before .before .before .before .before .before .before .before in
     let room = c .before .before .before .before .before .before .before in
-    let ended = turn-ends probe (state-of (l .device)) (l .s) (found .next .result) (l .out) 8400 (room .make-room .result) (l .inv .5) (found .next .ensures) (room .make-room .ensures .0) (long found)
+    let ended = turn-ends probe (state-of (l .device)) (l .s) (found .next .result) (l .out) 20000 (room .make-room .result) (l .inv .5) (found .next .ensures) (room .make-room .ensures .0) (long found)
     (c .before .before .before .before .before .if2 .taken) (c .before .before .before .before .before .before .before .before .before .before .before .before .before .before .before .if1 .taken) refl (c .before .before .stop .ensures) (omega (arith, roomy room)) (l .inv .1) in
     (ended .0, run-from _ _ (c .before .before .before .before .before .before .before .before .before .before .before .before .before .before .before .before .before .before .before .before .make .ensures) (c .before .before .before .before .before .before .before .before .before .before .before .before .before .before .before .before .before .before .new .ensures) (ended .1))
 
@@ -119,8 +119,7 @@ serve-requires : tie.Need-serve-requires Inv-loop μ-loop
 serve-requires c κs =
     let k = c .before .before .before .before in
     let l = at-loop k .loop in
-    let told = ready (eqb (l .s .offset) 0) (bytes k) (this k) in
-    (l .inv .3, told .0, told .1, told .2, l .inv .2, roomy (roomed k))
+    (l .inv .3, ready (eqb (l .s .offset) 0) (bytes k) (this k), l .inv .2, roomy (roomed k))
 
 loop-less : tie.Need-loop-less Inv-loop μ-loop
 loop-less c =
@@ -132,7 +131,7 @@ loop-again c =
     let k = c .before .before .before .before .before .before .before .before .before .before in
     let l = at-loop k .loop in
     let served = c .before .before .before .before .before .serve in
-    let again = turn-served probe (state-of (l .device)) (l .s) (looked k .next .result) (l .out) 8400 (roomed k .make-room .result) (l .inv .5) (looked k .next .ensures) (roomed k .make-room .ensures .0)
+    let again = turn-served probe (state-of (l .device)) (l .s) (looked k .next .result) (l .out) 20000 (roomed k .make-room .result) (l .inv .5) (looked k .next .ensures) (roomed k .make-room .ensures .0)
     (long (looked k)) (k .past .result) (k .past .ensures) (this k) (served .ensures .next) (served .ensures .line) (omega (arith, roomy (roomed k))) (l .inv .1) in
     (long (looked k), omega (arith, served .kept .1 .1 .1 .0, l .inv .1), omega (arith, served .kept .1 .1 .0, l .inv .2), served .ensures .valid, again .0, again .1)
 

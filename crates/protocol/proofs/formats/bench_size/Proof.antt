@@ -12,18 +12,18 @@ use Rattle.protocol.proofs.formats.bench_size.Statement.{statement}
 use Rattle.protocol.proofs.formats.bench_size.Tie as tie
 
 mark-requires : tie.Need-mark-requires
-mark-requires c κs = c .before .pre .marked
+mark-requires c κs = c .before .pre .part .marked
 
 returns : tie.Need-returns
 returns c =
     let s = c .before .before .before in
-    (bench-plain (s .args .head .now) (λ e. c .if1 .taken (c .before .mark .ensures ∙ e)), omega (arith, s .pre .most))
+    (bench-plain (s .args .head .now) (λ e. c .if1 .taken (c .before .mark .ensures ∙ e)), omega (arith, s .pre .part .most))
 
 get-requires : tie.Need-get-requires
 unfolding fixed bench-fixed
 get-requires c κs =
     let s = c .before .before .before in
-    let long : 14 ≤ length (s .args .head .now) = head-long Bench (s .args .head .now) (mark-of CM) (s .pre) (sym (c .before .mark .ensures) ∙ c .if1 .left) in
+    let long : 14 ≤ length (s .args .head .now) = head-long Bench (s .args .head .now) (mark-of CM) (s .pre .part) (sym (c .before .mark .ensures) ∙ c .if1 .left) in
     (omega arith, omega arith)
 
 returns-2 : tie.Need-returns-2
@@ -41,7 +41,7 @@ returns-3 c =
     let s = c .before .before .before .before .before in
     let bytes = s .args .head .now in
     let told = c .before .get .ensures .value in
-    (ap (λ (k : ℕ). length bytes + k) told ∙ bench-command bytes (sym (c .before .before .before .mark .ensures) ∙ c .before .before .if1 .left) (omega (arith, told, c .if2 .left)), omega (arith, s .pre .most, c .if2 .left))
+    (ap (λ (k : ℕ). length bytes + k) told ∙ bench-command bytes (sym (c .before .before .before .mark .ensures) ∙ c .before .before .if1 .left) (omega (arith, told, c .if2 .left)), omega (arith, s .pre .part .most, c .if2 .left))
 
 pub bench-size-spec : {M : Type 1} → statement M
 bench-size-spec =

@@ -34,11 +34,39 @@ unfolding probe-least
 returns-7 c = sym (ap probe-least (c .match .keys7))
 
 returns-8 : tie.Need-returns-8
-returns-8 c =
+unfolding probe-least
+returns-8 c = sym (ap probe-least (c .match .keys8))
+
+returns-9 : tie.Need-returns-9
+unfolding probe-least
+returns-9 c = sym (ap probe-least (c .match .keys9))
+
+returns-10 : tie.Need-returns-10
+unfolding probe-least
+returns-10 c = sym (ap probe-least (c .match .keys10))
+
+returns-11 : tie.Need-returns-11
+unfolding probe-least
+returns-11 c = sym (ap probe-least (c .match .keys11))
+
+returns-12 : tie.Need-returns-12
+returns-12 c =
     let rest = c .match .rest in
-    least-none _ (rest .0 .0 .0 .0 .0 .0 .1) (rest .0 .0 .0 .0 .0 .1) (rest .0 .0 .0 .0 .1) (rest .0 .0 .0 .1) (rest .0 .0 .1) (rest .0 .1) (rest .1)
+    least-none _ (rest .0 .0 .0 .0 .0 .0 .0 .0 .0 .0 .1) (rest .0 .0 .0 .0 .0 .0 .0 .0 .0 .1) (rest .0 .0 .0 .0 .0 .0 .0 .0 .1) (rest .0 .0 .0 .0 .0 .0 .0 .1) (rest .0 .0 .0 .0 .0 .0 .1) (rest .0 .0 .0 .0 .0 .1) (rest .0 .0 .0 .0 .1) (rest .0 .0 .0 .1) (rest .0 .0 .1) (rest .0 .1) (rest .1)
 
 pub probe-least-spec : {M : Type 1} → statement M
 probe-least-spec =
     tie.close
-    (tie.spec returns returns-2 returns-3 returns-4 returns-5 returns-6 returns-7 returns-8)
+    (tie.spec
+    returns
+    returns-2
+    returns-3
+    returns-4
+    returns-5
+    returns-6
+    returns-7
+    returns-8
+    returns-9
+    returns-10
+    returns-11
+    returns-12)

@@ -6,13 +6,25 @@ use Rattle.protocol.proofs.formats.probe_size.Statement.{statement}
 use Rattle.protocol.proofs.formats.probe_size.Tie as tie
 
 mark-requires : tie.Need-mark-requires
-mark-requires c κs = c .before .pre .marked
+mark-requires c κs = c .before .pre .part .marked
 
 command-size-requires : tie.Need-command-size-requires
 command-size-requires c κs = (c .before .before .before .pre, sym (c .before .mark .ensures) ∙ c .match .keys1)
 
 event-size-requires : tie.Need-event-size-requires
 event-size-requires c κs = (c .before .before .before .pre, sym (c .before .mark .ensures) ∙ c .match .keys2)
+
+request-size-requires : tie.Need-request-size-requires
+request-size-requires c κs = (c .before .before .before .pre, sym (c .before .mark .ensures) ∙ c .match .keys3)
+
+reply-size-requires : tie.Need-reply-size-requires
+reply-size-requires c κs = (c .before .before .before .pre, sym (c .before .mark .ensures) ∙ c .match .keys4)
+
+again-size-requires : tie.Need-again-size-requires
+again-size-requires c κs = (c .before .before .before .pre, sym (c .before .mark .ensures) ∙ c .match .keys5)
+
+walk-size-requires : tie.Need-walk-size-requires
+walk-size-requires c κs = (c .before .before .before .pre, sym (c .before .mark .ensures) ∙ c .match .keys6)
 
 returns : tie.Need-returns
 returns c = c .command-size .ensures
@@ -21,10 +33,23 @@ returns-2 : tie.Need-returns-2
 returns-2 c = c .event-size .ensures
 
 returns-3 : tie.Need-returns-3
-returns-3 c =
+returns-3 c = c .request-size .ensures
+
+returns-4 : tie.Need-returns-4
+returns-4 c = c .reply-size .ensures
+
+returns-5 : tie.Need-returns-5
+returns-5 c = c .again-size .ensures
+
+returns-6 : tie.Need-returns-6
+returns-6 c = c .walk-size .ensures
+
+returns-7 : tie.Need-returns-7
+returns-7 c =
     let s = c .before .before .before in
     let told = c .before .mark .ensures in
-    (probe-plain (s .args .head .now) (λ e. c .match .rest .0 .1 (told ∙ e)) (λ e. c .match .rest .1 (told ∙ e)), omega (arith, s .pre .most))
+    let rest = c .match .rest in
+    (probe-plain (s .args .head .now) (λ e. rest .0 .0 .0 .0 .0 .1 (told ∙ e)) (λ e. rest .0 .0 .0 .0 .1 (told ∙ e)) (λ e. rest .0 .0 .0 .1 (told ∙ e)) (λ e. rest .0 .0 .1 (told ∙ e)) (λ e. rest .0 .1 (told ∙ e)) (λ e. rest .1 (told ∙ e)), omega (arith, s .pre .part .most))
 
 pub probe-size-spec : {M : Type 1} → statement M
 probe-size-spec =
@@ -33,6 +58,14 @@ probe-size-spec =
     mark-requires
     command-size-requires
     event-size-requires
+    request-size-requires
+    reply-size-requires
+    again-size-requires
+    walk-size-requires
     returns
     returns-2
-    returns-3)
+    returns-3
+    returns-4
+    returns-5
+    returns-6
+    returns-7)

@@ -1,98 +1,42 @@
--- `protocol::output::put_columns` meets its contract. The invariant: the columns of the first i numbers are put after the mark. The measure is what is left of the
--- numbers. Assumes nothing.
-use mathlib.Core.Path.{_≡_, refl, sym, ap}
-use Prim.Native.Nat.{_≤_, _-_}
+-- `protocol::output::put_columns` meets its contract: the mark, and the columns after it. Assumes nothing.
 use native.Mathlib.Omega.{arith}
 use borrow.Author.Needs.{needs}
-use lib.ListN.{length, take, getD, length-set}
-use lib.Seq.{take-all}
-use Rattle.protocol.specs.Text.{columns}
-use Rattle.protocol.specs.Contracts.{Puts}
-use Rattle.protocol.proofs.Printing.{puts-nothing, puts-then, puts-two, puts-as, columns-more, length-columns, length-column, taken-columns}
+use lib.ListN.{length-set}
+use Rattle.protocol.proofs.Printing.{puts-then, puts-two, length-columns}
 use Rattle.protocol.proofs.output.put_columns.Statement.{statement}
 use Rattle.protocol.proofs.output.put_columns.Tie as tie
 
-abbrev Inv-loop : tie.InvT-loop
-Inv-loop out₀ at first second numbers to₀ i₀ out to i =
-    (i ≤ length numbers) × (length out ≡ length out₀) × Puts to₀ (columns (take i numbers)) out₀ out to
-
-abbrev μ-loop : tie.MeasureT-loop
-μ-loop out₀ at first second numbers to₀ i₀ out to i = length numbers - i
-
-slice-write-out : tie.Need-slice-write-out Inv-loop μ-loop
+slice-write-out : tie.Need-slice-write-out
 slice-write-out c = search needs
 
-add-out : tie.Need-add-out Inv-loop μ-loop
+add-out : tie.Need-add-out
 add-out c = search needs
 
-slice-write-out-2 : tie.Need-slice-write-out-2 Inv-loop μ-loop
+slice-write-out-2 : tie.Need-slice-write-out-2
 slice-write-out-2 c = simp length-set (omega arith)
 
-add-to : tie.Need-add-to Inv-loop μ-loop
-add-to c = search needs
+add-put-each : tie.Need-add-put-each
+add-put-each c = search needs
 
-loop-holds : tie.Need-loop-holds Inv-loop μ-loop
-unfolding columns
-loop-holds c = (search needs, refl, puts-nothing _ _ (simp length-set (omega arith)))
+put-each-requires : tie.Need-put-each-requires
+put-each-requires c κs = simp length-set (omega arith)
 
-mul-put-number : tie.Need-mul-put-number Inv-loop μ-loop
-mul-put-number c = search needs
+same-length : tie.Need-same-length
+same-length c = simp length-set at (c .before .before .put-each .kept .0)
 
-shared-slice-read-put-number : tie.Need-shared-slice-read-put-number Inv-loop μ-loop
-shared-slice-read-put-number c = search needs
-
-put-number-requires : tie.Need-put-number-requires Inv-loop μ-loop
-put-number-requires c κs =
-    let l = c .before .before .before .loop in
-    let a = c .before .before .before .before .before .before .args in
-    let end = taken-columns (a .numbers .now) (l .i) (l .inv .2) (l .inv .0) in
-    omega (arith, end, simp length-set at (l .inv .1))
-
-add-i : tie.Need-add-i Inv-loop μ-loop
-add-i c = search needs
-
-loop-less : tie.Need-loop-less Inv-loop μ-loop
-loop-less c = search needs
-
-loop-again : tie.Need-loop-again Inv-loop μ-loop
-loop-again c =
-    let l = c .before .before .before .before .before .before .loop in
-    let a = c .before .before .before .before .before .before .before .before .before .args in
-    let put = c .before .before .put-number in
-    let end = taken-columns (a .numbers .now) (l .i) (l .inv .2) (l .inv .0) in
-    let one = length-column (getD (a .numbers .now) (l .i) 0) in (
-      search needs,
-      omega (arith, put .kept .0, l .inv .1),
-      puts-as (puts-then (l .inv .2) (put .ensures) (simp length-set (omega (arith, end, one))))
-          (sym (columns-more (a .numbers .now) (l .i) (search needs))),
-    )
-
-same-length : tie.Need-same-length Inv-loop μ-loop
-same-length c = simp length-set at (c .before .loop .inv .1)
-
-returns : tie.Need-returns Inv-loop μ-loop
+returns : tie.Need-returns
 returns c =
-    let l = c .before .loop in
-    let a = c .before .before .before .before .args in
-    let all : take (l .i) (a .numbers .now) ≡ a .numbers .now = take-all (l .i) (a .numbers .now) (omega arith) in
-    puts-then (puts-two (a .at) (a .first) (a .second) _ (omega arith)) (puts-as (l .inv .2) (ap columns all)) (omega (arith, length-columns (a .numbers .now)))
+    let a = c .before .before .before .before .before .before .args in
+    puts-then (puts-two (a .at) (a .first) (a .second) _ (omega arith)) (c .before .before .put-each .ensures) (omega (arith, length-columns (a .numbers .now)))
 
 pub put-columns-spec : {M : Type 1} → statement M
 put-columns-spec =
     tie.close
     (tie.spec
-    Inv-loop
-    μ-loop
     slice-write-out
     add-out
     slice-write-out-2
-    add-to
-    loop-holds
-    mul-put-number
-    shared-slice-read-put-number
-    put-number-requires
-    add-i
-    loop-less
-    loop-again
+    add-put-each
+    put-each-requires
     same-length
     returns)
