@@ -34,6 +34,7 @@ fn columns(format: Format, record: &Record) -> &'static [&'static str] {
         Record::Line { .. } => &["code", "answer", "type"],
         Record::Status => &["bits", "waiting", "highest"],
         Record::Total => &["lines"],
+        _ => &[],
     }
 }
 
@@ -208,7 +209,7 @@ fn meaning(answer: &mut Answer, record: &Record) -> Option<()> {
             answer.add("logs", logs.join(","));
             answer.add("highest-log", log_word(highest));
         }
-        Record::New { .. } | Record::Media { .. } | Record::Total => {}
+        _ => {}
     }
     Some(())
 }
@@ -228,7 +229,7 @@ fn stateable(format: Format, record: &Record) -> (Vec<&'static str>, Vec<&'stati
         Record::Event { .. } => words.extend(STORED),
         Record::Line { .. } => words.extend(ANSWERS),
         Record::Status => fields.extend(["logs", "highest-log"]),
-        Record::New { .. } | Record::Media { .. } | Record::Total => {}
+        _ => {}
     }
     (words, fields)
 }

@@ -97,6 +97,7 @@ fn in_words(record: Option<&Record>, answer: &Answer) -> Vec<String> {
             reply_words(*opcode, payload, answer, &mut out);
             out
         }
+        _ => Vec::new(),
     }
 }
 

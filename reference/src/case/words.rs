@@ -72,6 +72,11 @@ pub fn line_words(format: Format, record: &Record) -> String {
         Record::Line { address } => format!("line address={address}"),
         Record::Status => "status".to_string(),
         Record::Total => "total".to_string(),
+        record => {
+            let mut text = "bytes ".to_string();
+            push_hex(&mut text, &record.bytes());
+            text
+        }
     }
 }
 

@@ -81,7 +81,25 @@ impl Refusal {
             Refusal::ReplyBufferTooSmall => 0x0100,
         }
     }
+
+    /// The refusal of a return number; None for Success.
+    pub fn of(number: u16) -> Option<Refusal> {
+        ALL_REFUSALS
+            .into_iter()
+            .find(|refusal| refusal.number() == number)
+    }
 }
+
+const ALL_REFUSALS: [Refusal; 8] = [
+    Refusal::InvalidInput,
+    Refusal::Unsupported,
+    Refusal::InvalidHandle,
+    Refusal::InvalidPhysicalAddress,
+    Refusal::InjectPoisonLimit,
+    Refusal::InvalidPayloadLength,
+    Refusal::InvalidLog,
+    Refusal::ReplyBufferTooSmall,
+];
 
 /// The names of the return numbers as the case tool writes them.
 pub const RETURN_NAMES: [(u64, &str); 9] = [

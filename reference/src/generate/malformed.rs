@@ -189,11 +189,7 @@ fn wrong_first(b: &mut Builder, records: &[Record], part: usize) {
 }
 
 /// Marks that are not there: those of later requests, lower-case ones, others.
-const UNKNOWN: [&[u8; 2]; 35] = [
-    b"RQ",
-    b"RP",
-    b"RW",
-    b"WK",
+const UNKNOWN: [&[u8; 2]; 31] = [
     b"AR",
     b"AB",
     b"PC",

@@ -275,7 +275,7 @@ pub const PROBE_PROFILES: &[Profile] = &[
         "malformed",
         malformed::PROBE_STREAMS,
         malformed::probe,
-        "bad streams of every kind, marks of later requests, a cut at every place (378 streams)",
+        "bad streams of every kind, marks of later requests, a cut at every place (366 streams)",
     ),
     one(
         "everything",

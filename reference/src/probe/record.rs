@@ -1,7 +1,10 @@
-//! Probe records (document 10 "Records of the base"): their bytes, and a reader
-//! that holds one record at a time and says where a stream is bad.
+//! Probe records (document 10 "Records of the base", and those of the landed
+//! requests): their bytes, and a reader that holds one record at a time and says
+//! where a stream is bad.
 
+use super::host;
 use crate::device::numbers::{number, MAILBOX, RECORD};
+use crate::host::request::Request;
 use crate::source::{self, Source};
 use crate::stream;
 use std::io::{self, BufRead};
@@ -39,6 +42,33 @@ pub enum Record {
     },
     Status,
     Total,
+    /// W-202: a request built.
+    Request {
+        room: u16,
+        fill: u8,
+        request: Request,
+    },
+    /// W-202: a reply read.
+    Reply {
+        opcode: u16,
+        asked: u32,
+        reply: Vec<u8>,
+    },
+    /// W-202: a reply read and written again.
+    Rewrite {
+        opcode: u16,
+        asked: u32,
+        room: u16,
+        fill: u8,
+        reply: Vec<u8>,
+    },
+    /// W-202: the walk of the poison list.
+    Walk {
+        address: u64,
+        lines: u64,
+        room: u32,
+        fill: u8,
+    },
 }
 
 impl Record {
@@ -52,6 +82,10 @@ impl Record {
             Record::Line { .. } => "LT",
             Record::Status => "ES",
             Record::Total => "DT",
+            Record::Request { .. } => "RQ",
+            Record::Reply { .. } => "RP",
+            Record::Rewrite { .. } => "RW",
+            Record::Walk { .. } => "WK",
         }
     }
 
@@ -79,6 +113,34 @@ impl Record {
                 out.extend(time.to_le_bytes());
                 out.push(*log);
                 sized(record, out);
+            }
+            Record::Request {
+                room,
+                fill,
+                request,
+            } => host::encode_request(*room, *fill, request, out),
+            Record::Reply {
+                opcode,
+                asked,
+                reply,
+            } => host::encode_reply(*opcode, *asked, None, reply, out),
+            Record::Rewrite {
+                opcode,
+                asked,
+                room,
+                fill,
+                reply,
+            } => host::encode_reply(*opcode, *asked, Some((*room, *fill)), reply, out),
+            Record::Walk {
+                address,
+                lines,
+                room,
+                fill,
+            } => {
+                out.extend(address.to_le_bytes());
+                out.extend(lines.to_le_bytes());
+                out.extend(room.to_le_bytes());
+                out.push(*fill);
             }
             _ => {}
         }
@@ -136,13 +198,13 @@ impl Record {
                 kind,
             }),
             Record::Line { address } => Some(stream::Record::Line { address }),
-            Record::Status | Record::Total => None,
+            _ => None,
         }
     }
 }
 
 /// A length of two bytes and as many bytes.
-fn sized(bytes: &[u8], out: &mut Vec<u8>) {
+pub fn sized(bytes: &[u8], out: &mut Vec<u8>) {
     out.extend((bytes.len() as u16).to_le_bytes());
     out.extend(bytes);
 }
@@ -174,6 +236,10 @@ impl<R: BufRead> Reader<R> {
                 b"EV" => event(source),
                 b"ES" => Ok(Some(Record::Status)),
                 b"DT" => Ok(Some(Record::Total)),
+                b"RQ" => host::request(source),
+                b"RP" => host::reply(source),
+                b"RW" => host::rewrite(source),
+                b"WK" => host::walk(source),
                 _ => Ok(stream::fixed(source, mark)?.map(Record::from)),
             }
         })
@@ -252,7 +318,7 @@ fn event<R: BufRead>(source: &mut Source<R>) -> io::Result<Option<Record>> {
 }
 
 /// As many bytes as the number `length` says, or None if cut or over the limit.
-fn block_of<R: BufRead>(source: &mut Source<R>, length: &[u8]) -> io::Result<Option<Vec<u8>>> {
+pub fn block_of<R: BufRead>(source: &mut Source<R>, length: &[u8]) -> io::Result<Option<Vec<u8>>> {
     match number(length) as usize {
         length if length <= MOST => source.block(length),
         _ => Ok(None),

@@ -3,6 +3,8 @@
 use super::record::{Reader, Record};
 use crate::device::numbers::number_of;
 use crate::device::{Config, Device, Fault, LineAnswer};
+use crate::host::reply::{read, write_again, Unread, Value};
+use crate::host::walk::walk;
 use crate::line::Line;
 use crate::source;
 use std::io::{self, BufRead, Write};
@@ -84,6 +86,42 @@ impl Probe {
                 self.line.numbers([bits, waiting, highest].map(u128::from));
             }
             Record::Total => self.line.number(self.device.damage_total()),
+            Record::Request {
+                room,
+                fill,
+                request,
+            } => {
+                let mut buffer = vec![*fill; usize::from(*room)];
+                let answer = request.build(&mut buffer, self.config);
+                self.answer(answer, &buffer, *fill);
+            }
+            Record::Reply {
+                opcode,
+                asked,
+                reply,
+            } => self.read(*opcode, *asked, reply),
+            Record::Rewrite {
+                opcode,
+                asked,
+                room,
+                fill,
+                reply,
+            } => {
+                let mut buffer = vec![*fill; usize::from(*room)];
+                let answer = write_again(*opcode, *asked, reply, &mut buffer, self.config);
+                self.answer(answer.expect("a known opcode"), &buffer, *fill);
+            }
+            // "`WK` carries no time .. and leaves the device as it is."
+            Record::Walk {
+                address,
+                lines,
+                room,
+                fill,
+            } => {
+                let mut buffer = vec![*fill; *room as usize];
+                let answer = walk(&self.device, *address, *lines, &mut buffer, self.config);
+                self.answer(answer, &buffer, *fill);
+            }
         }
         self.line.end();
     }
@@ -102,14 +140,40 @@ impl Probe {
     fn answer(&mut self, (number, length): (u16, usize), buffer: &[u8], fill: u8) {
         self.line.numbers([number.into(), length as u128]);
         let (reply, rest) = buffer.split_at(length);
-        // "bytes lower-case hex, `-` if there are none"
-        if reply.is_empty() {
-            self.line.word("-");
-        } else {
-            self.line.hex(reply);
-        }
+        self.bytes(reply);
         let kept = rest.iter().all(|byte| *byte == fill);
         self.line.number(kept);
+    }
+
+    /// "bytes lower-case hex, `-` if there are none"
+    fn bytes(&mut self, bytes: &[u8]) {
+        match bytes.is_empty() {
+            true => self.line.word("-"),
+            false => self.line.hex(bytes),
+        }
+    }
+
+    /// "`RP 0` and the fields read; refused `RP code`, for 0002h `RP 2 place`"
+    fn read(&mut self, code: u16, asked: u32, reply: &[u8]) {
+        match read(code, asked, reply, self.config).expect("a known opcode") {
+            Ok(reply) => {
+                self.line.number(0u8);
+                for value in reply.values() {
+                    match value {
+                        Value::Number(number) => self.line.number(*number),
+                        // Get Log's "one column is always there"; the others' bytes
+                        // are of a fixed size.
+                        Value::Bytes(bytes) => self.bytes(bytes),
+                    }
+                }
+            }
+            Err(unread) => {
+                self.line.number(unread.refusal().number());
+                if let Unread::Reserved(place) = unread {
+                    self.line.number(place as u128);
+                }
+            }
+        }
     }
 
     /// "Every answer is printed whole, also of a refused call: not stored, 0

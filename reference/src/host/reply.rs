@@ -1,0 +1,206 @@
+//! A reply read from its bytes, and written again.
+
+use super::layout::{layout, size_of, Field, Layout};
+use super::put;
+use crate::device::numbers::{number, Refusal};
+use crate::device::Config;
+
+/// What a field of a reply holds.
+#[derive(Clone, Debug, PartialEq, Eq)]
+pub enum Value {
+    Number(u64),
+    Bytes(Vec<u8>),
+}
+
+/// The fields of a reply in the order of document 01; an address and its type are
+/// two values, and what is reserved is none.
+#[derive(Clone, Debug, PartialEq, Eq)]
+pub struct Reply {
+    pub code: u16,
+    /// The fields before the records.
+    pub head: Vec<Value>,
+    /// The fields of each record.
+    pub records: Vec<Vec<Value>>,
+}
+
+/// Why a reply is not read, in the order in which it is found out.
+#[derive(Clone, Copy, Debug, PartialEq, Eq)]
+pub enum Unread {
+    /// "0016h for ... a reply not as long as its count, its fixed size or, for Get
+    /// Log, the length asked says"
+    Length,
+    /// "then 0002h with the place of the first byte with a reserved bit set", from 0
+    Reserved(usize),
+}
+
+impl Unread {
+    pub fn refusal(self) -> Refusal {
+        match self {
+            Unread::Length => Refusal::InvalidPayloadLength,
+            Unread::Reserved(_) => Refusal::InvalidInput,
+        }
+    }
+}
+
+/// Reads the reply of a command. `asked` is the length that a Get Log asked for;
+/// the others do not look at it. None if the opcode is none of the twelve.
+pub fn read(code: u16, asked: u32, bytes: &[u8], config: Config) -> Option<Result<Reply, Unread>> {
+    let layout = layout(code)?;
+    Some(match said_length(layout, asked, bytes) {
+        Some(length) if length == bytes.len() as u64 => fields(code, layout, bytes, config),
+        _ => Err(Unread::Length),
+    })
+}
+
+/// The length that the reply's count, its fixed size or the length asked says; None
+/// where the reply ends before its count.
+fn said_length(layout: Layout, asked: u32, bytes: &[u8]) -> Option<u64> {
+    Some(match layout {
+        Layout::Fixed(fields) => size_of(fields) as u64,
+        Layout::Counted(head, each) => {
+            let count = count_in(head, bytes)?;
+            size_of(head) as u64 + count * size_of(each) as u64
+        }
+        Layout::Asked => asked.into(),
+    })
+}
+
+/// The count that the bytes hold.
+fn count_in(head: &[Field], bytes: &[u8]) -> Option<u64> {
+    let before = head.iter().take_while(|field| **field != Field::Count);
+    let at: usize = before.map(|field| field.size()).sum();
+    bytes.get(at..at + Field::Count.size()).map(number)
+}
+
+/// The fields of a reply of the right length.
+fn fields(code: u16, layout: Layout, bytes: &[u8], config: Config) -> Result<Reply, Unread> {
+    let (head, each) = match layout {
+        Layout::Fixed(fields) => (fields, [].as_slice()),
+        Layout::Counted(head, each) => (head, each),
+        Layout::Asked => {
+            return Ok(Reply {
+                code,
+                head: vec![Value::Bytes(bytes.to_vec())],
+                records: Vec::new(),
+            })
+        }
+    };
+    let begin = size_of(head);
+    let mut records = Vec::new();
+    let first = values(head, &bytes[..begin], 0, config)?;
+    if !each.is_empty() {
+        for (at, record) in bytes[begin..].chunks(size_of(each)).enumerate() {
+            records.push(values(each, record, begin + at * size_of(each), config)?);
+        }
+    }
+    Ok(Reply {
+        code,
+        head: first,
+        records,
+    })
+}
+
+/// The values of these fields in `bytes`, of which the first is the reply's byte
+/// `place`.
+fn values(
+    fields: &[Field],
+    bytes: &[u8],
+    mut place: usize,
+    _config: Config,
+) -> Result<Vec<Value>, Unread> {
+    let mut values = Vec::new();
+    let mut rest = bytes;
+    for field in fields {
+        let (own, others) = rest.split_at(field.size());
+        match field {
+            Field::Number(_) | Field::Count => values.push(Value::Number(number(own))),
+            Field::Bytes(_) => values.push(Value::Bytes(own.to_vec())),
+            Field::Zero(_) => {
+                if let Some(at) = own.iter().position(|byte| *byte != 0) {
+                    return Err(Unread::Reserved(place + at));
+                }
+            }
+            Field::AddressAndType => {
+                if own[0] & RESERVED != 0 {
+                    return Err(Unread::Reserved(place));
+                }
+                let both = number(own);
+                values.push(Value::Number(both - both % 64));
+                values.push(Value::Number(both % 8));
+            }
+        }
+        place += field.size();
+        rest = others;
+    }
+    Ok(values)
+}
+
+/// "bits 3 to 5 of a record's address", which are in its lowest byte.
+const RESERVED: u8 = 0b0011_1000;
+
+impl Reply {
+    /// The reply's bytes, out of its fields alone.
+    pub fn bytes(&self) -> Vec<u8> {
+        let mut out = Vec::new();
+        match layout(self.code) {
+            Some(Layout::Fixed(fields)) => lay_out(fields, &self.head, &mut out),
+            Some(Layout::Counted(head, each)) => {
+                lay_out(head, &self.head, &mut out);
+                for record in &self.records {
+                    lay_out(each, record, &mut out);
+                }
+            }
+            Some(Layout::Asked) => {
+                if let [Value::Bytes(bytes)] = self.head.as_slice() {
+                    out.extend(bytes);
+                }
+            }
+            None => {}
+        }
+        out
+    }
+
+    /// All values, the records after the fields before them.
+    pub fn values(&self) -> impl Iterator<Item = &Value> {
+        self.head.iter().chain(self.records.iter().flatten())
+    }
+}
+
+/// Appends the bytes of these fields with these values; what is reserved is zero.
+fn lay_out(fields: &[Field], values: &[Value], out: &mut Vec<u8>) {
+    let mut values = values.iter();
+    let mut next = || match values.next() {
+        Some(Value::Number(number)) => number.to_le_bytes().to_vec(),
+        Some(Value::Bytes(bytes)) => bytes.clone(),
+        None => Vec::new(),
+    };
+    for field in fields {
+        let mut own = match field {
+            Field::Zero(_) => Vec::new(),
+            Field::AddressAndType => {
+                let (address, kind) = (next(), next());
+                address.iter().zip(kind).map(|(a, k)| a | k).collect()
+            }
+            _ => next(),
+        };
+        own.resize(field.size(), 0);
+        out.extend(own);
+    }
+}
+
+/// A reply read, and written again to the caller's room: the return number and the
+/// length. The reading comes first, since without it there is no reply to write;
+/// then 0100h for the room.
+pub fn write_again(
+    code: u16,
+    asked: u32,
+    bytes: &[u8],
+    room: &mut [u8],
+    config: Config,
+) -> Option<(u16, usize)> {
+    let written = match read(code, asked, bytes, config)? {
+        Ok(reply) => Ok(reply.bytes()),
+        Err(unread) => Err(unread.refusal()),
+    };
+    Some(put(written, room))
+}

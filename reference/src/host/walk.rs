@@ -1,0 +1,62 @@
+//! The walk of the poison list: "ask for a range, and where the reply says more,
+//! halve the range and ask for each half, down to one line, an odd line going to the
+//! second half".
+
+use super::put;
+use super::request::Request;
+use crate::device::numbers::{number, Refusal, MAILBOX};
+use crate::device::{Config, Device};
+
+/// A reply of Get Poison List has its records after this many bytes.
+const HEAD: usize = 32;
+
+/// The walk of a range of the device: its records, as in the reply, written to the
+/// caller's room; the return number and the length. The device stays as it is.
+pub fn walk(
+    device: &Device,
+    address: u64,
+    lines: u64,
+    room: &mut [u8],
+    config: Config,
+) -> (u16, usize) {
+    // Get Poison List changes nothing; the mailbox command may, so it gets a copy.
+    let mut device = device.clone();
+    let mut records = Vec::new();
+    let walked = part(&mut device, address, lines, &mut records, config);
+    put(walked.map(|()| records), room)
+}
+
+/// Appends the records of one range. "a walk over a range the device refuses gives
+/// the device's number": such a range is refused whole, before any half is asked for,
+/// since the halves of a range that is taken are taken too.
+fn part(
+    device: &mut Device,
+    address: u64,
+    lines: u64,
+    records: &mut Vec<u8>,
+    config: Config,
+) -> Result<(), Refusal> {
+    let reply = ask(device, address, lines)?;
+    // "Flag bit 0: more than 126 entries share a line with the range"
+    let more = reply[0] & 1 == 1;
+    if more && lines > 1 {
+        let first = lines / 2;
+        let middle = address + first * 64;
+        part(device, address, first, records, config)?;
+        return part(device, middle, lines - first, records, config);
+    }
+    let count = number(&reply[10..12]) as usize;
+    records.extend(&reply[HEAD..HEAD + count * 16]);
+    Ok(())
+}
+
+/// The reply of Get Poison List through the mailbox.
+fn ask(device: &mut Device, address: u64, lines: u64) -> Result<Vec<u8>, Refusal> {
+    let request = Request::GetPoisonList { address, lines };
+    let mut mailbox = [0; MAILBOX];
+    let (number, length) = device.command(request.code(), &request.payload(), 0, &mut mailbox);
+    match Refusal::of(number) {
+        Some(refusal) => Err(refusal),
+        None => Ok(mailbox[..length].to_vec()),
+    }
+}
