@@ -203,7 +203,8 @@ fn words_of_record(format: Format, stream: &[u8], number: usize) -> Next<String>
 /// that the column after them does.
 fn reply_byte(expected: &str, came: &str) -> String {
     let reply = |line: &str| {
-        let columns = line.strip_prefix("CM ")?;
+        let marks = ["CM ", "RQ ", "RW ", "WK "];
+        let columns = marks.iter().find_map(|mark| line.strip_prefix(mark))?;
         columns.split(' ').nth(2).map(str::to_string)
     };
     let (Some(expected), Some(came)) = (reply(expected), reply(came)) else {

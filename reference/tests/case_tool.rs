@@ -8,6 +8,7 @@ use reference::case::words::{line_words, stream_words};
 use reference::device::Config;
 use reference::format::Format;
 use reference::generate::profiles;
+use reference::host::request::Request;
 use reference::probe::record::Record;
 use std::io::Write;
 use std::process::{Command, Stdio};
@@ -69,7 +70,7 @@ fn errors_name_file_line_and_what_was_expected() {
         assert_eq!(error(text), expected);
     }
     for (text, expected) in [
-        ("news 1 0", "expected new, command, event, media, line, status, total, bytes, repeat or end, not `news`"),
+        ("news 1 0", "expected new, command, event, media, line, status, total, request, reply, write-again, walk, bytes, repeat or end, not `news`"),
         ("command identify room=4097", "expected room= from 0 to 4096, not `4097`"),
         ("command identify fill=1", "expected fill= as one byte of two hex digits, not `1`"),
         ("command identify raw=00*4097", "expected a payload of at most 4096 bytes (see `bytes`)"),
@@ -80,6 +81,29 @@ fn errors_name_file_line_and_what_was_expected() {
         ("event log=0 fill=00 length=4097", "expected length= from 0 to 4096, not `4097`"),
         ("status log=0", "expected no `log=` here"),
         ("total 1", "expected no `1` here"),
+        ("request", "expected one command name (see `bytes`)"),
+        ("request opcode=0x0100", "expected one command name (see `bytes`)"),
+        ("request identify time=0", "expected no `time=` here"),
+        ("request identify room=4097", "expected room= from 0 to 4096, not `4097`"),
+        ("request get-event-records", "expected log=NUMBER"),
+        ("request clear-event-records log=0 handles=2-1", "expected handles= as numbers from 0 to 65535, not `2-1`"),
+        ("request clear-event-records log=0 handles=1-65536", "expected handles= as numbers from 0 to 65535, not `1-65536`"),
+        ("request clear-event-records log=0 count=1", "expected no `count=` here"),
+        ("request clear-poison address=0 data=00", "expected data= of 64 bytes"),
+        ("request get-log id=00 offset=0 length=0", "expected id=effects or an id of 16 bytes"),
+        ("request set-event-interrupt-policy settings=1*256", "expected at most 255 settings"),
+        ("request set-event-interrupt-policy length-field=256", "expected length-field= from 0 to 255"),
+        ("reply hex=00", "expected one command name or opcode="),
+        ("reply get-log hex=00", "expected asked=NUMBER"),
+        ("reply identify room=0", "expected no `room=` here"),
+        ("reply identify hex=0", "expected bytes in hex, two digits each, not `0`"),
+        ("reply identify hex=00*4097", "expected a reply of at most 4096 bytes (see `bytes`)"),
+        ("reply identify hex=00*69 cut=70", "expected cut= from 0 to 69, not `70`"),
+        ("reply identify hex=00*69 bit=552", "expected bit= inside the 69 bytes, not 552"),
+        ("write-again identify room=4097", "expected room= from 0 to 4096, not `4097`"),
+        ("walk address=0", "expected lines=NUMBER"),
+        ("walk address=0 lines=0 room=65537", "expected room= from 0 to 65536, not `65537`"),
+        ("walk address=0 lines=0 length-field=1", "expected no `length-field=` here"),
     ] {
         let text = format!("program probe\nnew 1 0\n{text}");
         assert_eq!(error(&text), format!("case.txt:3: {expected}"));
@@ -91,9 +115,22 @@ fn errors_name_file_line_and_what_was_expected() {
 /// of probe, 11 and 12 of an EV; 12 and 13 of a CM of bench.
 #[test]
 fn a_length_field_is_put_whatever_follows() {
-    let bytes = |format, words| line_bytes(format, words).unwrap();
+    let bytes = |format, words: &str| line_bytes(format, words).unwrap();
     let command = bytes(Format::Probe, "command get-timestamp length-field=0x1001");
     assert_eq!((&command[15..], command.len()), (&[0x01, 0x10][..], 17));
+    for (words, at) in [
+        ("request clear-event-records log=1 flags=2", 9),
+        ("reply get-timestamp", 8),
+        ("write-again get-timestamp", 11),
+    ] {
+        let record = bytes(Format::Probe, &format!("{words} length-field=0x1001"));
+        assert_eq!(&record[at..], [0x01, 0x10], "{words}");
+    }
+    let policy = bytes(
+        Format::Probe,
+        "request set-event-interrupt-policy length-field=3",
+    );
+    assert_eq!(&policy[7..], [3]);
     let event = bytes(Format::Probe, "event log=0 bytes=4553 length-field=0");
     assert_eq!(&event[11..], [0, 0, 0x45, 0x53]);
     let bench = bytes(Format::Bench, "command get-timestamp length-field=2049");
@@ -210,6 +247,14 @@ fn command(opcode: u16, room: u16, fill: u8, payload: &[u8]) -> Record {
     }
 }
 
+fn request(request: Request) -> Record {
+    Record::Request {
+        room: 9,
+        fill: 0xaa,
+        request,
+    }
+}
+
 fn event(record: &[u8]) -> Record {
     Record::Event {
         time: u64::MAX,
@@ -302,6 +347,74 @@ fn every_probe_record_has_words_that_encode_to_it() {
         ),
         (Record::Status, "status"),
         (Record::Total, "total"),
+        (
+            request(Request::ClearEventRecords {
+                log: 1,
+                flags: 2,
+                handles: vec![3, 65535],
+            }),
+            "request room=9 fill=aa clear-event-records log=1 flags=2 handles=3,65535",
+        ),
+        (
+            request(Request::SetPolicy {
+                settings: vec![1, 2, 3, 255],
+            }),
+            "request room=9 fill=aa set-event-interrupt-policy settings=1,2,3,255",
+        ),
+        (
+            request(Request::GetLog {
+                identifier: reference::device::EFFECTS_IDENTIFIER,
+                offset: 1,
+                length: u32::MAX,
+            }),
+            "request room=9 fill=aa get-log id=effects offset=1 length=4294967295",
+        ),
+        (
+            request(Request::ClearPoison {
+                address: 64,
+                data: [7; 64],
+            }),
+            "request room=9 fill=aa clear-poison address=64 data=07*64",
+        ),
+        (
+            request(Request::Identify),
+            "request room=9 fill=aa identify",
+        ),
+        (
+            Record::Reply {
+                opcode: 0x0401,
+                asked: 5,
+                reply: counting.clone(),
+            },
+            "reply get-log asked=5 hex=000102",
+        ),
+        (
+            Record::Reply {
+                opcode: 0x4000,
+                asked: 0,
+                reply: [vec![1, 2], vec![0; 9], vec![3]].concat(),
+            },
+            "reply identify asked=0 hex=0102,00*9,03",
+        ),
+        (
+            Record::Rewrite {
+                opcode: 0x4301,
+                asked: 0,
+                room: 0,
+                fill: 1,
+                reply: vec![],
+            },
+            "write-again room=0 fill=01 inject-poison asked=0 hex=",
+        ),
+        (
+            Record::Walk {
+                address: 1,
+                lines: u64::MAX,
+                room: 65_536,
+                fill: 255,
+            },
+            "walk address=1 lines=18446744073709551615 room=65536 fill=ff",
+        ),
     ];
     let mut stream = Vec::new();
     for (record, expected) in &records {
@@ -314,7 +427,8 @@ fn every_probe_record_has_words_that_encode_to_it() {
     stream.extend(b"PC\x00");
     let text = stream_words(Format::Probe, &stream);
     assert!(text.starts_with("program probe\nnew 1 65535\n"));
-    assert!(text.ends_with("\nstatus\ntotal\nbytes 504300\n"));
+    assert!(text.contains("\nstatus\ntotal\nrequest "));
+    assert!(text.ends_with(" fill=ff\nbytes 504300\n"));
     let again = read(&text);
     assert_eq!(again.format, Format::Probe);
     assert_eq!(again.stream(), stream);
@@ -354,6 +468,96 @@ fn expectations_pass_and_fail() {
     );
     let report = check(&first, "NW zero\n");
     assert_eq!(report.failed, 1);
+}
+
+/// A poison list reply with one record: address 64, type 1, 2 lines.
+const CAPTURED: &str = "hex=02,00*9,0100,00*20,4100000000000000,02000000,00*4";
+
+#[test]
+fn answers_of_the_hosts_side_are_stated_and_said_in_words() {
+    let text = format!(
+        "program probe\n\
+        new 1 0\n\
+        request room=10 clear-event-records log=1 handles=1-2 => payload=0100,02,00*3,01000200 kept=1\n\
+        request room=9 fill=aa clear-event-records log=1 handles=1-2 => reply-buffer-too-small\n\
+        request clear-event-records log=1 handles=9*256 => invalid-payload-length length=0\n\
+        reply get-poison-list {CAPTURED} => success addresses=64 types=1 lengths=2 overflow=1\n\
+        repeat 8\n\
+        reply get-poison-list {CAPTURED} bit={{i+96}} => invalid-input place=12\n\
+        end\n\
+        repeat 48\n\
+        reply get-poison-list {CAPTURED} cut={{i}} => invalid-payload-length\n\
+        end\n\
+        reply get-supported-logs hex=0200,00*6,01*16,30000000,02*16,00*4 => size=48,0\n\
+        reply get-event-records hex=00*20,0100,00*10,07*128 => count=1 handles=1799 records=07*128\n\
+        reply get-log asked=0 => data=-\n\
+        reply identify hex=ff*69 => firmware=ffffffffffffffffffffffffffffffff inject-limit=65535\n\
+        reply inject-poison => success\n\
+        write-again room=48 get-poison-list {CAPTURED} => length=48 kept=1\n\
+        media address=64 lines=3 type=7\n\
+        walk address=0 lines=2 => count=1 addresses=64 types=7 lengths=1 records=47,00*7,01,00*7\n\
+        walk address=0 lines=1 room=0 => count=0 addresses= kept=1\n\
+        walk address=32 lines=1 => invalid-input\n"
+    );
+    let case = read(&text);
+    let output = reference::probe::lines_of(&case.stream(), Config::default());
+    let output = String::from_utf8(output).unwrap();
+    let report = check(&case, &output);
+    assert_eq!(
+        (report.passed, report.failed),
+        (69, 0),
+        "{:?}",
+        report.lines
+    );
+    let said = explain(&case, &output);
+    for line in [
+        "success: request of clear-event-records, 10 bytes, which is the whole buffer",
+        "payload: log=1 flags=0 count=2 handles=1,2",
+        "refused: reply buffer too small (0100h): length 0, all 9 bytes of the buffer still 0xaa",
+        "read: get-poison-list reply of 48 bytes",
+        "flags 2 (more 0, overflow 1), overflow time 0, 1 record",
+        "record: address 64 (0x40), type 1 (external), 2 lines",
+        "refused: invalid input (0002h): byte 12 has a reserved bit set",
+        "refused: invalid payload length (0016h)",
+        "read: inject-poison reply of no bytes",
+        "the same bytes as read",
+        "success: walk, 1 record, 16 bytes, the other 65,520 bytes of the buffer still 0x00",
+        "record: address 64 (0x40), type 7 (vendor specific), 1 line",
+        "success: walk, 0 records, no bytes, the buffer is empty",
+    ] {
+        assert!(
+            said.contains(&format!("    {line}\n")),
+            "{line} not in {said}"
+        );
+    }
+    // Answers that no right program gives.
+    let one = |words: &str, line: &str| {
+        let case = read(&format!("program probe\nnew 1 0\n{words}\n"));
+        explain(&case, &format!("NW 0\n{line}\n"))
+    };
+    let wrong = one("request get-event-records log=1", "RQ 0 1 02 1");
+    assert!(wrong.ends_with("\n    NOT THE REQUEST MEANT\n"));
+    let wrong = one("write-again inject-poison", "RW 0 1 02 1");
+    assert!(wrong.ends_with("\n    NOT THE SAME BYTES as read\n"));
+    for (words, line) in [
+        ("reply get-timestamp hex=00*8", "RP 0"),
+        ("reply get-timestamp hex=00*8", "RP 0 1 2"),
+        ("reply get-timestamp hex=00*8", "RP 0 01"),
+        ("reply get-timestamp hex=00*8", "RP 2"),
+        ("reply get-timestamp hex=00*8", "RP 22 0"),
+        (
+            "reply get-event-interrupt-policy hex=00*5",
+            "RP 0 1 2 3 4 256",
+        ),
+        ("reply get-log asked=0", "RP 0"),
+        ("reply get-poison-list hex=00*32", "RP 0 0 0 1"),
+        ("reply get-poison-list hex=00*32", "RP 0 0 0 1 32 0 1"),
+        ("walk address=0 lines=1", "WK 0 16 00 1"),
+        ("request identify", "RQ 0 0  1"),
+    ] {
+        let said = one(words, line);
+        assert!(said.contains("not a line of this record: "), "{said}");
+    }
 }
 
 #[test]
@@ -531,7 +735,7 @@ fn an_error_is_printed_once_by_each_subcommand() {
     let name = path.to_str().unwrap();
     let wrong = [
         ("repeat 3\ncommand identify room=x\nend\n", "expected room= from 0 to 4096, not `x`"),
-        ("\nlines 3\n", "expected new, command, event, media, line, status, total, bytes, repeat or end, not `lines`"),
+        ("\nlines 3\n", "expected new, command, event, media, line, status, total, request, reply, write-again, walk, bytes, repeat or end, not `lines`"),
     ];
     for (text, message) in wrong {
         std::fs::write(&path, format!("program probe\n{text}")).unwrap();

@@ -2,8 +2,10 @@
 //! fields: the columns of document 10, then the parts of a reply.
 
 use super::fields::hex_groups;
-use super::layout::layout;
+use super::host_answers::reply_of;
+use super::layout::{layout, Part, WALK};
 use super::text::whole_number;
+use crate::bench::push_hex;
 use crate::device::numbers::{return_name, RETURN_NAMES};
 use crate::format::Format;
 use crate::probe::record::Record;
@@ -23,7 +25,8 @@ fn log_word(log: u64) -> String {
 }
 
 /// The columns of a line after its mark, as document 10 has them; bench does not
-/// print `kept`. All are decimal numbers but `reply`.
+/// print `kept`. All are decimal numbers but those of bytes. RP's columns are the
+/// fields of its reply, which are read by `host_answers`.
 fn columns(format: Format, record: &Record) -> &'static [&'static str] {
     match record {
         Record::New { .. } => &["code"],
@@ -34,7 +37,10 @@ fn columns(format: Format, record: &Record) -> &'static [&'static str] {
         Record::Line { .. } => &["code", "answer", "type"],
         Record::Status => &["bits", "waiting", "highest"],
         Record::Total => &["lines"],
-        _ => &[],
+        Record::Request { .. } => &["code", "length", "payload", "kept"],
+        Record::Reply { .. } => &["code"],
+        Record::Rewrite { .. } => &["code", "length", "reply", "kept"],
+        Record::Walk { .. } => &["code", "length", "records", "kept"],
     }
 }
 
@@ -104,9 +110,12 @@ impl Answer {
     }
 }
 
+/// The fields that hold bytes in hex.
+pub const BYTES: [&str; 4] = ["reply", "data", "payload", "records"];
+
 /// Whether a field holds bytes in hex.
 pub fn is_bytes(name: &str) -> bool {
-    name == "reply" || name == "data"
+    BYTES.contains(&name)
 }
 
 /// The bytes of a lower-case hex text, as a line has it.
@@ -135,18 +144,22 @@ fn readable(format: Format, record: Option<&Record>, line: &str) -> Option<Answe
         return Some(answer);
     }
     let record = record?;
-    let (mark, words) = words.split_first()?;
+    let (mark, mut words) = words.split_first()?;
+    let mut answer = Answer::default();
+    if let (Record::Reply { opcode, .. }, Some((code, fields))) = (record, words.split_first()) {
+        read_fields(&mut answer, *opcode, code, fields)?;
+        words = &words[..1];
+    }
     let names = printed(format, record, words);
     if *mark != record.mark() || words.len() != names.len() {
         return None;
     }
-    let mut answer = Answer::default();
     for (name, word) in names.iter().zip(words) {
         match (*name, *word) {
             // "bytes lower-case hex, `-` if there are none"
-            ("reply", "-") if format == Format::Probe => answer.add(name, ""),
-            ("reply", "") => return None,
-            ("reply", word) => answer.add(name, hex_bytes(word).map(|_| word)?),
+            (name, "-") if is_bytes(name) && format == Format::Probe => answer.add(name, ""),
+            (name, "") if is_bytes(name) => return None,
+            (name, word) if is_bytes(name) => answer.add(name, hex_bytes(word).map(|_| word)?),
             (_, word) => answer.add(name, decimal(word)?),
         }
     }
@@ -157,10 +170,47 @@ fn readable(format: Format, record: Option<&Record>, line: &str) -> Option<Answe
     Some(answer)
 }
 
+/// The columns of RP after its code: "`RP 0` and the fields read; refused `RP code`,
+/// for 0002h `RP 2 place`". None if they are none of these.
+fn read_fields(answer: &mut Answer, opcode: u16, code: &str, words: &[&str]) -> Option<()> {
+    match (code, words) {
+        ("0", words) => {
+            // The reply that the columns describe, taken apart as a command's.
+            let reply = reply_of(opcode, words)?.bytes();
+            let mut hex = String::new();
+            push_hex(&mut hex, &reply);
+            answer.add("reply", hex);
+            add_parts(answer, layout(opcode), &[], &reply);
+        }
+        ("2", [place]) => answer.add("place", decimal(place)?),
+        ("2", _) => return None,
+        (_, []) => {}
+        _ => return None,
+    }
+    Some(())
+}
+
+/// The named parts of bytes.
+fn add_parts(answer: &mut Answer, parts: &[(&str, Part)], payload: &[u8], bytes: &[u8]) {
+    for (name, part) in parts {
+        if let Some(value) = part.value(payload, bytes) {
+            answer.add(name, value);
+        }
+    }
+}
+
 /// A decimal number as a program prints it.
-fn decimal(text: &str) -> Option<u64> {
+pub fn decimal(text: &str) -> Option<u64> {
     let number: u64 = text.parse().ok()?;
     (number.to_string() == text).then_some(number)
+}
+
+/// The bytes that a call wrote to its room; None if length or `kept` cannot be.
+fn written(answer: &Answer, name: &str) -> Option<Vec<u8>> {
+    let bytes = hex_bytes(answer.field(name).unwrap_or(""))?;
+    let right = answer.number("length") == Some(bytes.len() as u64);
+    let kept = answer.number("kept").is_none_or(|kept| kept <= 1);
+    (right && kept).then_some(bytes)
 }
 
 /// Adds what the columns mean; None if they can mean nothing.
@@ -175,19 +225,18 @@ fn meaning(answer: &mut Answer, record: &Record) -> Option<()> {
         Record::Command {
             opcode, payload, ..
         } => {
-            let reply = hex_bytes(answer.field("reply").unwrap_or(""))?;
-            if answer.number("length") != Some(reply.len() as u64) {
-                return None;
-            }
-            if answer.number("kept").is_some_and(|kept| kept > 1) {
-                return None;
-            }
+            let reply = written(answer, "reply")?;
             if answer.has("success") && !reply.is_empty() {
-                for (name, part) in layout(*opcode) {
-                    if let Some(value) = part.value(payload, &reply) {
-                        answer.add(name, value);
-                    }
-                }
+                add_parts(answer, layout(*opcode), payload, &reply);
+            }
+        }
+        Record::Request { .. } => drop(written(answer, "payload")?),
+        Record::Rewrite { .. } => drop(written(answer, "reply")?),
+        Record::Walk { .. } => {
+            let records = written(answer, "records")?;
+            if answer.has("success") {
+                answer.add("count", records.len() / 16);
+                add_parts(answer, WALK, &[], &records);
             }
         }
         Record::Event { .. } => {
@@ -209,7 +258,7 @@ fn meaning(answer: &mut Answer, record: &Record) -> Option<()> {
             answer.add("logs", logs.join(","));
             answer.add("highest-log", log_word(highest));
         }
-        _ => {}
+        Record::New { .. } | Record::Media { .. } | Record::Total | Record::Reply { .. } => {}
     }
     Some(())
 }
@@ -229,7 +278,16 @@ fn stateable(format: Format, record: &Record) -> (Vec<&'static str>, Vec<&'stati
         Record::Event { .. } => words.extend(STORED),
         Record::Line { .. } => words.extend(ANSWERS),
         Record::Status => fields.extend(["logs", "highest-log"]),
-        _ => {}
+        Record::Reply { opcode, .. } => {
+            fields.extend(["place", "reply"]);
+            fields.extend(layout(*opcode).iter().map(|(name, _)| *name));
+        }
+        Record::Walk { .. } => {
+            fields.push("count");
+            fields.extend(WALK.iter().map(|(name, _)| *name));
+        }
+        Record::New { .. } | Record::Media { .. } | Record::Total => {}
+        Record::Request { .. } | Record::Rewrite { .. } => {}
     }
     (words, fields)
 }
@@ -264,7 +322,7 @@ pub fn check_stated(format: Format, expected: &str, record: Option<&Record>) -> 
 /// An error if a stated value is none that the field can have.
 fn check_value(name: &str, value: &str) -> Result<(), String> {
     let (fits, what): (fn(&str) -> bool, &str) = match name {
-        "reply" | "data" => (
+        name if is_bytes(name) => (
             |text| text == "-" || hex_groups(text).is_ok(),
             "bytes in hex",
         ),

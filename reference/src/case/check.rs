@@ -1,6 +1,6 @@
 //! `check`: the answers a case states against the lines a program printed.
 
-use super::answer::{answer, is_bytes, Answer};
+use super::answer::{answer, is_bytes, Answer, BYTES};
 use super::encode::Case;
 use super::fields::hex_groups;
 use super::text::whole_number;
@@ -66,7 +66,7 @@ fn came(format: Format, pair: &Pair) -> Answer {
 /// What came, with the whole reply only where the case asks for it.
 fn asked_for(expected: &str, came: &Answer) -> String {
     let mut text = came.text();
-    for name in ["reply", "data"] {
+    for name in BYTES {
         if expected.contains(&format!("{name}=")) {
             text.push_str(&format!(" {name}={}", came.field(name).unwrap_or("none")));
         }

@@ -3,6 +3,7 @@
 use super::answer::check_stated;
 pub use super::fields::hex_groups;
 use super::fields::Fields;
+use super::host_lines;
 use super::text::{plain_lines, whole_number, CaseError, PlainLine};
 use crate::device::numbers::{opcode, MAILBOX, RECORD};
 use crate::device::EFFECTS_IDENTIFIER;
@@ -124,17 +125,22 @@ fn bytes_of(
         .bytes(record)
         .ok_or_else(|| "expected a record of the case's program".to_string())?;
     if let Some(length) = length {
-        let at = length_place(format, record).ok_or("expected no `length-field=` here")?;
-        bytes[at..at + 2].copy_from_slice(&length.to_le_bytes());
+        let place = length_place(format, record);
+        let (at, size) = place.ok_or("expected no `length-field=` here")?;
+        if size == 1 && length > 255 {
+            return Err("expected length-field= from 0 to 255".to_string());
+        }
+        bytes[at..at + size].copy_from_slice(&length.to_le_bytes()[..size]);
     }
     Ok(bytes)
 }
 
-/// The words of a `command` or `event` line without `length-field=`, and the
-/// length that it puts into the record, whatever follows.
+/// The words of a line without `length-field=`, and the length that it puts into the
+/// record, whatever follows.
 fn length_field(words: &str) -> Result<(String, Option<u16>), String> {
     const NAME: &str = "length-field=";
-    let sized = words.starts_with("command ") || words.starts_with("event ");
+    let first = words.split_whitespace().next().unwrap_or_default();
+    let sized = ["command", "event", "request", "reply", "write-again"].contains(&first);
     if !sized || !words.contains(NAME) {
         return Ok((words.to_string(), None));
     }
@@ -149,13 +155,13 @@ fn length_field(words: &str) -> Result<(String, Option<u16>), String> {
     Ok((others.join(" "), Some(number)))
 }
 
-/// Where a record's length field stands, if it has one.
-fn length_place(format: Format, record: &Record) -> Option<usize> {
+/// Where a record's length field stands and how many bytes it has, if there is one.
+fn length_place(format: Format, record: &Record) -> Option<(usize, usize)> {
     match (format, record) {
-        (Format::Bench, Record::Command { .. }) => Some(12),
-        (Format::Probe, Record::Command { .. }) => Some(15),
-        (Format::Probe, Record::Event { .. }) => Some(11),
-        _ => None,
+        (Format::Bench, Record::Command { .. }) => Some((12, 2)),
+        (Format::Probe, Record::Command { .. }) => Some((15, 2)),
+        (Format::Probe, Record::Event { .. }) => Some((11, 2)),
+        _ => host_lines::length_place(record),
     }
 }
 
@@ -193,11 +199,13 @@ fn record(format: Format, words: &str) -> Result<Option<Record>, String> {
             address: fields.number("address", u64::MAX)?,
         },
         "status" => Record::Status,
-        _ => Record::Total,
+        "total" => Record::Total,
+        first => host_lines::record(first, &mut fields)?.ok_or("expected a record's first word")?,
     };
     let bare = match record {
         Record::New { .. } => 2,
-        Record::Command { .. } => 1,
+        Record::Command { .. } | Record::Request { .. } => 1,
+        Record::Reply { .. } | Record::Rewrite { .. } => 1,
         _ => 0,
     };
     fields.all_used(bare)?;
@@ -249,8 +257,14 @@ fn command(format: Format, fields: &mut Fields) -> Result<Record, String> {
     })
 }
 
-/// The opcode that a `command` line names or gives as a number.
-fn opcode_of(fields: &mut Fields) -> Result<u16, String> {
+/// The name of a command, or `opcode=N` if it is none of the twelve.
+pub fn name_of(code: u16) -> String {
+    let found = COMMANDS.iter().find(|(_, known)| *known == code);
+    found.map_or(format!("opcode={code:#06x}"), |(name, _)| name.to_string())
+}
+
+/// The opcode that a line names or gives as a number.
+pub fn opcode_of(fields: &mut Fields) -> Result<u16, String> {
     let given = fields.take("opcode");
     match (fields.bare.first(), given) {
         (None, Some(text)) => whole_number(&text)
@@ -290,15 +304,7 @@ fn payload(code: u16, fields: &mut Fields) -> Result<Vec<u8>, String> {
         }
         opcode::SET_TIMESTAMP => out.extend(fields.number("value", u64::MAX)?.to_le_bytes()),
         opcode::GET_LOG => {
-            match fields.take("id").as_deref() {
-                Some("effects") | None => out.extend(EFFECTS_IDENTIFIER),
-                Some(text) => {
-                    out = hex_groups(&text.replace('-', ""))?;
-                    if out.len() != 16 {
-                        return Err("expected id=effects or an id of 16 bytes".to_string());
-                    }
-                }
-            }
+            out.extend(identifier(fields)?);
             for name in ["offset", "length"] {
                 let value = fields.number(name, u32::MAX.into())? as u32;
                 out.extend(value.to_le_bytes());
@@ -317,6 +323,18 @@ fn payload(code: u16, fields: &mut Fields) -> Result<Vec<u8>, String> {
         _ => {}
     }
     Ok(out)
+}
+
+/// `id=`: the Command Effects Log's if not given.
+pub fn identifier(fields: &mut Fields) -> Result<[u8; 16], String> {
+    match fields.take("id").as_deref() {
+        Some("effects") | None => Ok(EFFECTS_IDENTIFIER),
+        Some(text) => {
+            let bytes = hex_groups(&text.replace('-', ""))?;
+            let wrong = |_| "expected id=effects or an id of 16 bytes".to_string();
+            bytes.try_into().map_err(wrong)
+        }
+    }
 }
 
 /// The bytes of an `event` line: 128 for bench, any number for probe.

@@ -2,6 +2,7 @@
 
 use super::answer::{answer, hex_bytes, Answer, LOG_NAMES};
 use super::encode::{Case, COMMANDS};
+use super::host_answers;
 use super::pairs;
 use crate::device::numbers::{number, opcode};
 use crate::probe::record::Record;
@@ -41,7 +42,7 @@ fn cut(text: &str) -> String {
 }
 
 /// `1 byte`, `2,048 bytes`.
-fn counted(count: u64, one: &str, more: &str) -> String {
+pub fn counted(count: u64, one: &str, more: &str) -> String {
     let digits = count.to_string();
     let mut grouped = String::new();
     for (at, digit) in digits.chars().enumerate() {
@@ -53,7 +54,7 @@ fn counted(count: u64, one: &str, more: &str) -> String {
     format!("{grouped} {}", if count == 1 { one } else { more })
 }
 
-fn bytes(count: u64) -> String {
+pub fn bytes(count: u64) -> String {
     counted(count, "byte", "bytes")
 }
 
@@ -97,12 +98,12 @@ fn in_words(record: Option<&Record>, answer: &Answer) -> Vec<String> {
             reply_words(*opcode, payload, answer, &mut out);
             out
         }
-        _ => Vec::new(),
+        record => host_answers::in_words(record, answer).unwrap_or_default(),
     }
 }
 
 /// `refused: invalid input (0002h)`, or None of a call that is not refused.
-fn refusal(answer: &Answer) -> Option<String> {
+pub fn refusal(answer: &Answer) -> Option<String> {
     let code = answer.number("code").filter(|code| *code != 0)?;
     let name = answer.words.first()?.replace('-', " ");
     Some(format!("refused: {name} ({code:04X}h)"))
@@ -194,7 +195,7 @@ fn command_head(code: u16, answer: &Answer) -> String {
 
 /// The bytes of the buffer that the answer should not have touched. Bench's
 /// line does not tell of them.
-fn buffer(answer: &Answer, room: u64, fill: u8) -> String {
+pub fn buffer(answer: &Answer, room: u64, fill: u8) -> String {
     let (Some(kept), Some(length)) = (answer.number("kept"), answer.number("length")) else {
         return String::new();
     };
@@ -219,7 +220,7 @@ fn buffer(answer: &Answer, room: u64, fill: u8) -> String {
 }
 
 /// The lines about the bytes of a reply.
-fn reply_words(code: u16, payload: &[u8], answer: &Answer, out: &mut Vec<String>) {
+pub fn reply_words(code: u16, payload: &[u8], answer: &Answer, out: &mut Vec<String>) {
     let reply = answer
         .field("reply")
         .and_then(hex_bytes)
@@ -269,15 +270,18 @@ fn policy_words(reply: &[u8], out: &mut Vec<String>) {
 
 fn event_words(payload: &[u8], answer: &Answer, reply: &[u8], out: &mut Vec<String>) {
     let field = |name: &str| answer.field(name).unwrap_or("?").to_string();
-    let log = payload.first().copied().unwrap_or(255);
-    let name = LOG_NAMES.get(usize::from(log)).unwrap_or(&"?");
+    // A reply that was captured does not tell of which log it is.
+    let log = payload.first().map_or(String::new(), |log| {
+        let name = LOG_NAMES.get(usize::from(*log)).unwrap_or(&"?");
+        format!("log {log} ({name}): ")
+    });
     // W-201: More is set where the log holds more records than the reply carries.
     let rest = match answer.number("more") {
         Some(0) => "no more to read",
         _ => "more to read",
     };
     out.push(format!(
-        "log {log} ({name}): flags {} (overflow {}, more {}), {}, {rest}",
+        "{log}flags {} (overflow {}, more {}), {}, {rest}",
         field("flags"),
         field("overflow"),
         field("more"),
@@ -314,14 +318,18 @@ fn poison_words(answer: &Answer, reply: &[u8], out: &mut Vec<String>) {
         field("overflow-time"),
         records(answer)
     ));
-    for record in reply.get(32..).unwrap_or_default().chunks_exact(16) {
-        let address = number(&record[..8]);
-        out.push(format!(
-            "record: address {} ({:#x}), type {}, {}",
-            address & !7,
-            address & !7,
-            type_words(&(address & 7).to_string()),
-            lines(number(&record[8..12]))
-        ));
-    }
+    let records = reply.get(32..).unwrap_or_default().chunks_exact(16);
+    out.extend(records.map(record_words));
+}
+
+/// A record of a poison list.
+pub fn record_words(record: &[u8]) -> String {
+    let address = number(&record[..8]);
+    format!(
+        "record: address {} ({:#x}), type {}, {}",
+        address & !7,
+        address & !7,
+        type_words(&(address & 7).to_string()),
+        lines(number(&record[8..12]))
+    )
 }

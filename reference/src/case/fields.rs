@@ -46,12 +46,16 @@ impl Fields {
         }
     }
 
-    /// A list of numbers joined by commas; empty if not given.
+    /// A list of numbers joined by commas, where `A-B` stands for the numbers from A
+    /// to B and `N*COUNT` for N that many times; empty if not given.
     pub fn list(&mut self, name: &str, most: u64) -> Result<Vec<u64>, String> {
         let text = self.take(name).unwrap_or_default();
         let parts = text.split(',').filter(|part| !part.is_empty());
-        let numbers = parts.map(|part| whole_number(part).filter(|n| *n <= most));
-        let list: Option<Vec<u64>> = numbers.collect();
+        let mut list = Some(Vec::new());
+        for part in parts {
+            let numbers = numbers(part).filter(|numbers| numbers.iter().all(|n| *n <= most));
+            list = list.zip(numbers).map(|(list, more)| [list, more].concat());
+        }
         list.ok_or_else(|| format!("expected {name}= as numbers from 0 to {most}, not `{text}`"))
     }
 
@@ -89,6 +93,20 @@ impl Fields {
             None => Ok(()),
         }
     }
+}
+
+/// One part of a list of numbers: `N`, `A-B` or `N*COUNT`, of at most 65,536 numbers.
+fn numbers(part: &str) -> Option<Vec<u64>> {
+    let few = |count: u64| count <= 1 << 16;
+    if let Some((from, to)) = part.split_once('-') {
+        let (from, to) = (whole_number(from)?, whole_number(to)?);
+        return few(to.checked_sub(from)?).then(|| (from..=to).collect());
+    }
+    if let Some((number, count)) = part.split_once('*') {
+        let (number, count) = (whole_number(number)?, whole_number(count)?);
+        return few(count).then(|| vec![number; count as usize]);
+    }
+    Some(vec![whole_number(part)?])
 }
 
 /// Hex groups joined by commas, each repeated by `*COUNT`: `0102,00*6`.

@@ -11,17 +11,19 @@ pub enum Part {
     Number(usize, usize),
     /// A bit: byte, bit.
     Bit(usize, u32),
-    /// A number of each record: the record's length, the number's first byte
-    /// and length, the bits that count. Records begin at byte 32.
-    Each(usize, usize, usize, u64),
+    /// A number of each record: the place of the first record, a record's length,
+    /// the number's first byte in it and length, the bits that count.
+    Each(usize, usize, usize, usize, u64),
     /// Every byte as a number.
     EachByte,
-    /// Text: first byte, length; zeros left out, blanks as `-`.
+    /// Text: first byte, length; zeros at its end left out, blanks as `-`. In hex if
+    /// it is no text.
     Text(usize, usize),
-    /// A log identifier of 16 bytes: first byte.
-    Identifier(usize),
-    /// All bytes in hex.
-    Hex,
+    /// A log identifier of 16 bytes at the begin of each record: the place of the
+    /// first record, a record's length.
+    EachIdentifier(usize, usize),
+    /// All bytes from this one on in hex.
+    HexFrom(usize),
     /// Entries of the Command Effects Log, opcode and effect.
     Effects,
 }
@@ -38,13 +40,14 @@ const GET_EVENT_RECORDS: &[(&str, Part)] = &[
     ("first-time", Number(4, 8)),
     ("last-time", Number(12, 8)),
     ("count", Number(20, 2)),
-    ("handles", Each(128, 20, 2, ALL)),
-    ("times", Each(128, 24, 8, ALL)),
+    ("handles", Each(32, 128, 20, 2, ALL)),
+    ("times", Each(32, 128, 24, 8, ALL)),
+    ("records", HexFrom(32)),
 ];
 const GET_SUPPORTED_LOGS: &[(&str, Part)] = &[
     ("count", Number(0, 2)),
-    ("id", Identifier(8)),
-    ("size", Number(24, 4)),
+    ("id", EachIdentifier(8, 20)),
+    ("size", Each(8, 20, 16, 4, ALL)),
 ];
 const IDENTIFY: &[(&str, Part)] = &[
     ("firmware", Text(0, 16)),
@@ -68,9 +71,15 @@ const GET_POISON_LIST: &[(&str, Part)] = &[
     ("overflow", Bit(0, 1)),
     ("overflow-time", Number(2, 8)),
     ("count", Number(10, 2)),
-    ("addresses", Each(16, 0, 8, !7)),
-    ("types", Each(16, 0, 8, 7)),
-    ("lengths", Each(16, 8, 4, ALL)),
+    ("addresses", Each(32, 16, 0, 8, !7)),
+    ("types", Each(32, 16, 0, 8, 7)),
+    ("lengths", Each(32, 16, 8, 4, ALL)),
+];
+/// The walk's records are those of the reply without the fields before them.
+pub const WALK: &[(&str, Part)] = &[
+    ("addresses", Each(0, 16, 0, 8, !7)),
+    ("types", Each(0, 16, 0, 8, 7)),
+    ("lengths", Each(0, 16, 8, 4, ALL)),
 ];
 
 /// The named fields of a command's reply.
@@ -80,7 +89,7 @@ pub fn layout(code: u16) -> &'static [(&'static str, Part)] {
         opcode::GET_POLICY => &[("settings", EachByte)],
         opcode::GET_TIMESTAMP => &[("timestamp", Number(0, 8))],
         opcode::GET_SUPPORTED_LOGS => GET_SUPPORTED_LOGS,
-        opcode::GET_LOG => &[("data", Hex), ("entries", Effects)],
+        opcode::GET_LOG => &[("data", HexFrom(0)), ("entries", Effects)],
         opcode::IDENTIFY => IDENTIFY,
         opcode::GET_POISON_LIST => GET_POISON_LIST,
         _ => &[],
@@ -95,21 +104,25 @@ impl Part {
         Some(match *self {
             Number(from, length) => number(at(from, length)?).to_string(),
             Bit(byte, bit) => (reply.get(byte)? >> bit & 1).to_string(),
-            Each(size, from, length, bits) => {
-                let records = reply.get(32..)?.chunks_exact(size);
+            Each(begin, size, from, length, bits) => {
+                let records = reply.get(begin..)?.chunks_exact(size);
                 list(records.map(|record| number(&record[from..from + length]) & bits))
             }
             EachByte => list(reply.iter()),
             Text(from, length) => {
-                let text = String::from_utf8_lossy(at(from, length)?).replace('\0', "");
-                text.replace(' ', "-")
+                let bytes = at(from, length)?;
+                let end = bytes.iter().rposition(|byte| *byte != 0);
+                let text = &bytes[..end.map_or(0, |last| last + 1)];
+                match text.iter().all(|byte| (b' '..=b'~').contains(byte)) {
+                    true => String::from_utf8_lossy(text).replace(' ', "-"),
+                    false => hex(bytes),
+                }
             }
-            Identifier(from) => identifier_words(at(from, 16)?),
-            Hex => {
-                let mut hex = String::new();
-                push_hex(&mut hex, reply);
-                hex
+            EachIdentifier(begin, size) => {
+                let records = reply.get(begin..)?.chunks_exact(size);
+                list(records.map(|record| identifier_words(&record[..16])))
             }
+            HexFrom(from) => hex(reply.get(from..)?),
             // Whole entries can be named only from such an offset.
             Effects if payload.len() == 24 && payload[16] % 4 == 0 => {
                 list(reply.chunks_exact(4).map(|entry| {
@@ -120,6 +133,12 @@ impl Part {
             Effects => return None,
         })
     }
+}
+
+fn hex(bytes: &[u8]) -> String {
+    let mut out = String::new();
+    push_hex(&mut out, bytes);
+    out
 }
 
 /// Values joined by commas.

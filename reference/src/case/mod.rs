@@ -7,6 +7,8 @@ pub mod check;
 pub mod encode;
 pub mod explain;
 pub mod fields;
+pub mod host_answers;
+pub mod host_lines;
 pub mod layout;
 pub mod records;
 pub mod text;

@@ -3,6 +3,7 @@
 //! exactly as document 01 has it"), so that a later request adds its records to
 //! probe alone.
 
+use super::host_lines;
 use crate::device::numbers::MAILBOX;
 use crate::format::Format;
 use crate::probe::record::{self as probe, Record, MOST};
@@ -17,7 +18,17 @@ impl Format {
     /// The first words of the lines that are records of this program.
     pub fn kinds(self) -> &'static [&'static str] {
         let all = &[
-            "new", "command", "event", "media", "line", "status", "total",
+            "new",
+            "command",
+            "event",
+            "media",
+            "line",
+            "status",
+            "total",
+            host_lines::KINDS[0],
+            host_lines::KINDS[1],
+            host_lines::KINDS[2],
+            host_lines::KINDS[3],
         ];
         match self {
             Format::Bench => &all[..5],

@@ -1,6 +1,7 @@
 //! From records back to case text, for `compare`, `decode` and `explain`.
 
 use super::encode::{line_bytes, COMMANDS};
+use super::host_lines;
 use crate::bench::push_hex;
 use crate::device::numbers::{number, opcode, RECORD};
 use crate::device::EFFECTS_IDENTIFIER;
@@ -18,6 +19,30 @@ pub fn hex_text(bytes: &[u8]) -> String {
         push_hex(&mut out, bytes);
     }
     out
+}
+
+/// Lower-case hex of bytes; each run of more than eight equal ones is written as
+/// `HH*COUNT`, between commas.
+pub fn hex_pieces(bytes: &[u8]) -> String {
+    let mut out = String::new();
+    for run in bytes.chunk_by(|one, other| one == other) {
+        if run.len() <= 8 {
+            push_hex(&mut out, run);
+            continue;
+        }
+        if !out.is_empty() && !out.ends_with(',') {
+            out.push(',');
+        }
+        push_hex(&mut out, &run[..1]);
+        out.push_str(&format!("*{},", run.len()));
+    }
+    out.trim_end_matches(',').to_string()
+}
+
+/// Numbers joined by commas.
+pub fn joined(numbers: &[impl ToString]) -> String {
+    let texts: Vec<String> = numbers.iter().map(|number| number.to_string()).collect();
+    texts.join(",")
 }
 
 /// The case text of a whole stream. It encodes to the same bytes again; a bad
@@ -72,11 +97,7 @@ pub fn line_words(format: Format, record: &Record) -> String {
         Record::Line { address } => format!("line address={address}"),
         Record::Status => "status".to_string(),
         Record::Total => "total".to_string(),
-        record => {
-            let mut text = "bytes ".to_string();
-            push_hex(&mut text, &record.bytes());
-            text
-        }
+        record => host_lines::words(record),
     }
 }
 
@@ -112,26 +133,19 @@ fn command_words(format: Format, head: &str, code: u16, payload: &[u8]) -> Strin
 }
 
 /// The fields of a payload of the right length, each after a blank.
-fn payload_words(code: u16, payload: &[u8]) -> String {
-    let joined = |numbers: Vec<u64>| -> String {
-        let texts: Vec<String> = numbers.iter().map(u64::to_string).collect();
-        texts.join(",")
-    };
+pub fn payload_words(code: u16, payload: &[u8]) -> String {
     match (code, payload.len()) {
         (opcode::GET_EVENT_RECORDS, 1) => format!(" log={}", payload[0]),
         (opcode::CLEAR_EVENT_RECORDS, 6..) => {
-            let handles = payload[6..].chunks(2).map(number).collect();
+            let handles: Vec<u64> = payload[6..].chunks(2).map(number).collect();
             let mut words = format!(" log={} flags={}", payload[0], payload[1]);
             words.push_str(&format!(" count={}", payload[2]));
             if payload[3..6] != [0; 3] {
                 words.push_str(&format!(" reserved={}", hex_text(&payload[3..6])));
             }
-            words + &format!(" handles={}", joined(handles))
+            words + &format!(" handles={}", joined(&handles))
         }
-        (opcode::SET_POLICY, _) => {
-            let settings = payload.iter().map(|byte| u64::from(*byte)).collect();
-            format!(" settings={}", joined(settings))
-        }
+        (opcode::SET_POLICY, _) => format!(" settings={}", joined(payload)),
         (opcode::SET_TIMESTAMP, 8) => format!(" value={}", number(payload)),
         (opcode::GET_LOG, 24) => format!(
             " id={} offset={} length={}",
