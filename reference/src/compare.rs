@@ -2,7 +2,7 @@
 //! line by line.
 
 use crate::case::words::{hex_text, line_words};
-use crate::device::fault::FaultLine;
+use crate::device::fault::{of_host, FaultLine};
 use crate::device::Config;
 use crate::format::Format;
 use crate::generate::{profile_named, profile_of, Profile};
@@ -140,7 +140,8 @@ fn place_words(seed: u64, profile: &Profile, part: usize) -> String {
 }
 
 /// For each fault the first stream of the plan whose lines differ with it, if
-/// there is one. A stream is made once for all faults not yet found.
+/// there is one. A stream is made once for all faults not yet found, and a fault of the
+/// host's side is not tried where no record of that side is.
 pub fn find_faults(plan: &Plan, faults: &[&FaultLine]) -> Vec<Option<String>> {
     let mut found = vec![None; faults.len()];
     for (seed, profile, part) in streams(plan) {
@@ -149,7 +150,11 @@ pub fn find_faults(plan: &Plan, faults: &[&FaultLine]) -> Vec<Option<String>> {
         }
         let stream = profile.stream_of(plan.format, seed, part, None);
         let expected = plan.format.lines_of(&stream, Config::default());
+        let host = has_host_record(&expected);
         for (line, found) in faults.iter().zip(&mut found) {
+            if of_host(line.fault) && !host {
+                continue;
+            }
             let faulty = Config {
                 fault: Some(line.fault),
             };
@@ -159,6 +164,13 @@ pub fn find_faults(plan: &Plan, faults: &[&FaultLine]) -> Vec<Option<String>> {
         }
     }
     found
+}
+
+/// Whether one of the lines answers a record of the host's side.
+fn has_host_record(lines: &[u8]) -> bool {
+    let marks: [&[u8]; 4] = [b"RQ ", b"RP ", b"RW ", b"WK "];
+    let mut lines = lines.split(|byte| *byte == b'\n');
+    lines.any(|line| marks.iter().any(|mark| line.starts_with(mark)))
 }
 
 /// The first line that differs, with the record it answers.

@@ -1,6 +1,6 @@
 //! The two program formats: document 01's `bench` and document 10's `probe`.
 
-use crate::device::fault::{FaultLine, FAULTS, PROBE_FAULTS};
+use crate::device::fault::{FaultLine, FAULTS, HOST_FAULTS, PROBE_FAULTS};
 use crate::device::Config;
 use crate::{bench, probe};
 use std::io::{self, BufRead, Write};
@@ -47,7 +47,10 @@ impl Format {
     pub fn faults(self) -> Vec<&'static FaultLine> {
         match self {
             Format::Bench => FAULTS.iter().collect(),
-            Format::Probe => FAULTS.iter().chain(PROBE_FAULTS).collect(),
+            Format::Probe => {
+                let device = FAULTS.iter().chain(PROBE_FAULTS);
+                device.chain(HOST_FAULTS).collect()
+            }
         }
     }
 }

@@ -5,7 +5,7 @@ The independent second program, written from documents 00, 01 and 10 and the lan
 requests of document 02 alone.
 
   reference bench       the bench protocol: records in, a line for each out
-  reference probe       the probe protocol: every call, any buffer
+  reference probe       the probe protocol: every call, the host's side, any buffer
   reference generate    an adversarial stream by seed
   reference profiles    the kinds of generated streams
   reference compare     generated streams through another program and the model
@@ -36,7 +36,7 @@ Reads bench records from standard input and prints a line for each, as document
 reference probe [--fault NAME] < STREAM
 
 Reads probe records from standard input and prints a line for each, as document
-10 says for the records of the base. Exit status 0, after BAD too.
+10 says for the records of the base and those of W-202. Exit status 0, after BAD too.
 
   --fault NAME  with a planted fault of `reference faults --format probe`
 ",
@@ -128,7 +128,7 @@ faults that the seeds find and M those that they do not.
 
   --program PATH     a path, or a path and arguments with blanks between them
   --format F         bench (so if not given) or probe
-  --seeds A..B       the seeds from A to B - 1 (0..210), or one seed: --seeds A
+  --seeds A..B       the seeds from A to B - 1 (0..234), or one seed: --seeds A
   --profile P        this profile for all seeds, not the one that a seed chooses
   --all              prints the first difference of every stream, not of one
   --timeout SECONDS  for each stream (60)

@@ -61,6 +61,34 @@ fn default_seeds_use_every_profile() {
 }
 
 #[test]
+fn profiles_say_how_many_streams_they_have() {
+    for format in [Bench, Probe] {
+        for profile in profiles(format) {
+            let said = profile
+                .what
+                .contains(&format!("({} streams)", profile.streams()));
+            assert_eq!(said, profile.streams() > 1, "{}", profile.name);
+        }
+    }
+}
+
+/// At least as many seeds for each as the default of 210 gave before W-202 brought its
+/// profiles: 8 or 9 of bench, 6 or 7 of probe.
+#[test]
+fn every_profile_has_its_seeds() {
+    for (format, least) in [(Bench, 9), (Probe, 6)] {
+        let names: Vec<&str> = DEFAULT_SEEDS
+            .map(|seed| profile_of(format, seed).name)
+            .collect();
+        for profile in profiles(format) {
+            let least = if profile.large { 2 } else { least };
+            let seeds = names.iter().filter(|name| **name == profile.name).count();
+            assert!(seeds >= least, "{format:?} {}: {seeds}", profile.name);
+        }
+    }
+}
+
+#[test]
 fn a_difference_is_reported() {
     let faulty = Subject::program(&format!("{PROGRAM} bench --fault surplus-handles-pass"));
     let mut said = Vec::new();
@@ -254,9 +282,9 @@ fn malformed_probe_streams_end_bad() {
         text.lines().last().unwrap_or_default().starts_with("BAD ")
     };
     // All but the empty input and the cuts before a record's first byte: of NW,
-    // two CM, EV, MD, LT, ES, DT and a later NW.
+    // two CM, EV, MD, LT, ES, DT, five RQ, RP, RW, WK and a later NW.
     let bad = (0..malformed.streams()).filter(bad).count();
-    assert_eq!(bad, malformed.streams() - 1 - 9);
+    assert_eq!(bad, malformed.streams() - 1 - 17);
 }
 
 #[test]
@@ -281,9 +309,82 @@ fn probe_profiles_reach_what_they_are_about() {
         assert!(status.contains(&format!("\nES {bits} ")), "{bits}");
     }
     assert!(text("total").contains("DT "));
+    let requests = text("host-requests");
+    for line in ["RQ 0 ", "RQ 256 0 - 1\n", "RQ 22 0 - 1\n"] {
+        assert!(requests.contains(line), "{line}");
+    }
+    // The places of reserved bytes of all three kinds of replies.
+    let replies = text("host-replies");
+    for place in [1, 2, 7, 12, 22, 31, 32, 44, 47, 48, 63] {
+        assert!(replies.contains(&format!("\nRP 2 {place}\n")), "{place}");
+    }
+    for line in ["RP 22\n", "RW 22 0 - 1\n", "RW 2 0 - 1\n", "RW 256 0 - 1\n"] {
+        assert!(replies.contains(line), "{line}");
+    }
+    assert!(text("host-device-replies").contains("\nRP 0 "));
+    for profile in profiles(Probe).iter().filter(|profile| !profile.large) {
+        let host = profile.name.starts_with("host-");
+        for part in (0..profile.streams()).filter(|_| host) {
+            let length = self::text(Probe, profile.name, part).len();
+            assert!(length < 300_000, "{} {part}: {length}", profile.name);
+        }
+    }
     for profile in profiles(Probe).iter().filter(|profile| profile.large) {
         assert!(profile.stream_of(Probe, 1, 0, None).len() > 3_000_000);
     }
+}
+
+/// Walks of the default seeds: of lists of every number of entries that the profile
+/// names, with entries that halving cut, in rooms of just their bytes and one byte
+/// short.
+#[test]
+fn default_seeds_walk_lists() {
+    let (mut exact, mut longer, mut short, mut cut) = (0, 0, 0, 0);
+    let mut codes = Vec::new();
+    for seed in DEFAULT_SEEDS.filter(|seed| profile_of(Probe, *seed).name == "host-walks") {
+        let profile = profile_of(Probe, seed);
+        for part in 0..profile.streams() {
+            let stream = profile.stream_of(Probe, seed, part, None);
+            let text = String::from_utf8(Probe.lines_of(&stream, Config::default())).unwrap();
+            let mut lengths = Vec::new();
+            for ((_, record), line) in Probe.records(&stream).iter().zip(text.lines()) {
+                let answer = answer(Probe, record.as_ref(), line);
+                let Some(Record::Walk { room, .. }) = record else {
+                    continue;
+                };
+                let code = answer.number("code").unwrap();
+                codes.push(code);
+                let length = answer.number("length").unwrap();
+                let room = u64::from(*room);
+                match code {
+                    0 if room == length && length > 0 => exact += 1,
+                    0 if length > 0 => longer += 1,
+                    0x0100 if lengths.contains(&(room + 1)) => short += 1,
+                    _ => {}
+                }
+                lengths.push(length);
+                // More than 126 records that touch in one type: parts of an entry.
+                if length > 126 * 16 && touching(&answer) {
+                    cut += 1;
+                }
+            }
+        }
+    }
+    assert!(exact > 100 && longer > 100 && short > 20 && cut > 20);
+    for code in [0, 2, 0x000f, 0x0100] {
+        assert!(codes.contains(&code));
+    }
+}
+
+/// Whether two records of a walk touch and are of one type.
+fn touching(answer: &reference::case::answer::Answer) -> bool {
+    let list = |name: &str| -> Vec<u64> {
+        let text = answer.field(name).unwrap().split(',');
+        text.map(|number| number.parse().unwrap()).collect()
+    };
+    let (addresses, types, lengths) = (list("addresses"), list("types"), list("lengths"));
+    (1..addresses.len())
+        .any(|i| addresses[i - 1] + lengths[i - 1] * 64 == addresses[i] && types[i - 1] == types[i])
 }
 
 /// The handles in a line of Get Event Records.

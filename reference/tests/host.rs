@@ -2,7 +2,9 @@
 //! Streams are laid out here by hand and expected lines are written from the
 //! documents.
 
-use reference::device::{Config, Device};
+use reference::device::{Config, Device, Fault};
+use reference::host::layout::{layout, reserved_bits};
+use reference::host::reply::read;
 use reference::host::request::Request;
 use reference::host::walk::walk;
 use reference::probe::lines_of;
@@ -386,6 +388,59 @@ fn the_first_reserved_bit_is_named_by_its_place() {
     }
     // What document 01 gives a value is kept whatever it holds.
     assert!(line_of(&rp(0x4000, 0, &[255; 69])).starts_with("RP 0 "));
+}
+
+#[test]
+fn reserved_bits_are_those_of_the_table() {
+    let bits = |code, records| reserved_bits(layout(code).unwrap(), records);
+    let bytes = |from: usize, to: usize| (from * 8..to * 8).collect::<Vec<usize>>();
+    assert_eq!(bits(0x0100, 3), [bytes(1, 2), bytes(22, 32)].concat());
+    assert_eq!(bits(0x0400, 2), bytes(2, 8));
+    let record = |at: usize| {
+        [
+            vec![at * 8 + 3, at * 8 + 4, at * 8 + 5],
+            bytes(at + 12, at + 16),
+        ]
+    };
+    let poison = [
+        vec![bytes(1, 2), bytes(12, 32)],
+        record(32).into(),
+        record(48).into(),
+    ];
+    assert_eq!(bits(0x4300, 2), poison.concat().concat());
+    for code in [
+        0x0101, 0x0102, 0x0103, 0x0300, 0x0301, 0x0401, 0x4000, 0x4301, 0x4302,
+    ] {
+        assert_eq!(bits(code, 2), []);
+    }
+}
+
+/// A planted fault of the device takes another way through the reading, with the same
+/// answers.
+#[test]
+fn a_fault_of_the_device_alters_no_reading() {
+    let device = Config {
+        fault: Some(Fault::OverflowCountWraps),
+    };
+    for (code, asked, reply, _) in replies() {
+        for length in [0, 1, 31, 32, reply.len().saturating_sub(1), reply.len()] {
+            let mut bytes = reply.clone();
+            bytes.resize(length, 0);
+            for place in [
+                None,
+                Some(0),
+                Some(1),
+                Some(12),
+                Some(length.saturating_sub(1)),
+            ] {
+                if let Some(byte) = place.and_then(|place| bytes.get_mut(place)) {
+                    *byte ^= 0x10;
+                }
+                let good = read(code, asked, &bytes, Config::default());
+                assert_eq!(read(code, asked, &bytes, device), good);
+            }
+        }
+    }
 }
 
 /// The line of a walk of these entries (address, lines, type).

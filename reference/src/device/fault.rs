@@ -1,7 +1,7 @@
 //! Planted faults: errors that look reasonable, switched on one at a time to
 //! show that the generator's default seeds find them. No fault is on by itself.
 
-/// One planted fault of the model.
+/// One planted fault of the model or of the host's side.
 #[derive(Clone, Copy, Debug, PartialEq, Eq)]
 pub enum Fault {
     OverflowCountWraps,
@@ -60,6 +60,31 @@ pub enum Fault {
     RefusedEventIsStored,
     RefusedMediaIsDropped,
     RefusedLineIsClean,
+    HostExactRoomRefused,
+    HostWritesWhatFits,
+    HandlesOver255Taken,
+    HandlesBeforeRoom,
+    AddressBitsIgnored,
+    RecordZerosIgnored,
+    ByteAfterFlagsIgnored,
+    PlaceFrom1,
+    ReservedBeforeLength,
+    CountInOneByte,
+    SurplusBytesTaken,
+    AskedIgnored,
+    ReplyOverMailboxRefused,
+    FlagBitsReserved,
+    FlagBitsNotWritten,
+    IdentifyZerosReserved,
+    IdentifyLastSizeEarly,
+    RoomBeforeReading,
+    WalkOddLineFirst,
+    WalkOddLineLost,
+    WalkSecondHalfSkipped,
+    WalkFirstHalfTwice,
+    WalkStopsAt126,
+    WalkJoinsNeighbours,
+    WalkRefusedIsEmpty,
 }
 
 /// A fault with its name for `--fault` and what it does.
@@ -361,3 +386,138 @@ pub const PROBE_FAULTS: &[FaultLine] = &[
         "a refused line test answers Clean",
     ),
 ];
+
+/// The planted faults of the host's side (W-202), which probe alone can see, in the
+/// records RQ, RP, RW and WK.
+pub const HOST_FAULTS: &[FaultLine] = &[
+    line(
+        Fault::HostExactRoomRefused,
+        "host-exact-room-refused",
+        "0100h is given for a room of just the bytes needed",
+    ),
+    line(
+        Fault::HostWritesWhatFits,
+        "host-writes-what-fits",
+        "a room that is too small gets as many bytes as fit before 0100h",
+    ),
+    line(
+        Fault::HandlesOver255Taken,
+        "handles-over-255-taken",
+        "over 255 handles are taken, the count in 8 bits",
+    ),
+    line(
+        Fault::HandlesBeforeRoom,
+        "handles-before-room",
+        "0016h for over 255 handles is given before 0100h",
+    ),
+    line(
+        Fault::AddressBitsIgnored,
+        "address-bits-ignored",
+        "bits 3 to 5 of a poison record's address are not looked at",
+    ),
+    line(
+        Fault::RecordZerosIgnored,
+        "record-zeros-ignored",
+        "the zero bytes of a poison record are not looked at",
+    ),
+    line(
+        Fault::ByteAfterFlagsIgnored,
+        "byte-after-flags-ignored",
+        "the zero byte after a reply's flags is not looked at",
+    ),
+    line(
+        Fault::PlaceFrom1,
+        "place-from-1",
+        "the place of a reserved bit is counted from 1",
+    ),
+    line(
+        Fault::ReservedBeforeLength,
+        "reserved-before-length",
+        "0002h for the fields before the records is given before 0016h",
+    ),
+    line(
+        Fault::CountInOneByte,
+        "count-in-one-byte",
+        "the count of a reply is read from its low byte",
+    ),
+    line(
+        Fault::SurplusBytesTaken,
+        "surplus-bytes-taken",
+        "a reply longer than it says is read",
+    ),
+    line(
+        Fault::AskedIgnored,
+        "asked-ignored",
+        "a Get Log reply of any length is read",
+    ),
+    line(
+        Fault::ReplyOverMailboxRefused,
+        "reply-over-mailbox-refused",
+        "0016h is given for a reply over 2,048 bytes",
+    ),
+    line(
+        Fault::FlagBitsReserved,
+        "flag-bits-reserved",
+        "bits 2 to 7 of a reply's flags are reserved",
+    ),
+    line(
+        Fault::FlagBitsNotWritten,
+        "flag-bits-not-written",
+        "bits 2 to 7 of a poison list's flags are not written again",
+    ),
+    line(
+        Fault::IdentifyZerosReserved,
+        "identify-zeros-reserved",
+        "the fields that Identify gives as 0 are reserved",
+    ),
+    line(
+        Fault::IdentifyLastSizeEarly,
+        "identify-last-size-early",
+        "the size of log 4 is read from the two bytes before it",
+    ),
+    line(
+        Fault::RoomBeforeReading,
+        "room-before-reading",
+        "0100h for a reply written again is given before its reading",
+    ),
+    line(
+        Fault::WalkOddLineFirst,
+        "walk-odd-line-first",
+        "the odd line of a halved range goes to the first half",
+    ),
+    line(
+        Fault::WalkOddLineLost,
+        "walk-odd-line-lost",
+        "both halves of a halved range have as many lines",
+    ),
+    line(
+        Fault::WalkSecondHalfSkipped,
+        "walk-second-half-skipped",
+        "the second half of a halved range is not asked for",
+    ),
+    line(
+        Fault::WalkFirstHalfTwice,
+        "walk-first-half-twice",
+        "the first half of a halved range is asked for twice, if it is not halved again",
+    ),
+    line(
+        Fault::WalkStopsAt126,
+        "walk-stops-at-126",
+        "the walk gives the first reply's records, whatever it says of more",
+    ),
+    line(
+        Fault::WalkJoinsNeighbours,
+        "walk-joins-neighbours",
+        "parts of an entry cut by halving are joined again",
+    ),
+    line(
+        Fault::WalkRefusedIsEmpty,
+        "walk-refused-is-empty",
+        "a walk over a refused range succeeds with no records",
+    ),
+];
+
+/// Whether a fault is one of the host's side: it shows in no other record.
+pub fn of_host(fault: Fault) -> bool {
+    HOST_FAULTS.iter().any(|line| line.fault == fault)
+}

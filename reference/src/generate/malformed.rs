@@ -3,6 +3,8 @@
 use super::builder::Builder;
 use super::commands::plausible_payload;
 use crate::device::numbers::{opcode, RECORD};
+use crate::device::EFFECTS_IDENTIFIER;
+use crate::host::request::Request;
 use crate::probe::record::{Record, MOST};
 
 /// One record of each kind that bench has too.
@@ -149,23 +151,36 @@ fn some_records(b: &mut Builder) {
 type Bad = fn(&mut Builder, &[Record], usize);
 
 /// The kinds of bad probe streams, with the number of streams of each.
-const PROBE_KINDS: [(usize, Bad); 5] = [
-    (10, wrong_first),
+const PROBE_KINDS: [(usize, Bad); 6] = [
+    (10 + 8, wrong_first),
     (3 * UNKNOWN.len(), unknown_mark),
     (27, over_limit),
-    (4, cut_great),
+    (3 * HOST_SIZES.len(), host_sizes),
+    (6, cut_great),
     // One of each record, and a later NW.
-    (6 + 17 + 25 + 141 + 23 + 10 + 2 + 2 + 6, cut),
+    (
+        6 + 17 + 25 + 141 + 23 + 10 + 2 + 2 + (15 + 13 + 31 + 79 + 7 + 18 + 21 + 23) + 6,
+        cut,
+    ),
 ];
 
-pub const PROBE_STREAMS: usize =
-    PROBE_KINDS[0].0 + PROBE_KINDS[1].0 + PROBE_KINDS[2].0 + PROBE_KINDS[3].0 + PROBE_KINDS[4].0;
+pub const PROBE_STREAMS: usize = {
+    let mut sum = 0;
+    let mut kind = 0;
+    while kind < PROBE_KINDS.len() {
+        sum += PROBE_KINDS[kind].0;
+        kind += 1;
+    }
+    sum
+};
 
 /// One bad stream for each part, by the kinds above.
 pub fn probe(b: &mut Builder, part: usize) {
     let mut records = one_of_each(b);
     let later = records[0].clone();
-    records.extend([Record::Status, Record::Total, later]);
+    records.extend([Record::Status, Record::Total]);
+    records.extend(one_of_each_of_host(b));
+    records.push(later);
     let mut part = part % PROBE_STREAMS;
     for (streams, make) in PROBE_KINDS {
         if part < streams {
@@ -173,6 +188,60 @@ pub fn probe(b: &mut Builder, part: usize) {
         }
         part -= streams;
     }
+}
+
+/// Records of the host's side, among them requests with every form of fields.
+fn one_of_each_of_host(b: &mut Builder) -> Vec<Record> {
+    let requests = [
+        Request::ClearEventRecords {
+            log: 1,
+            flags: 0,
+            handles: vec![1, 2],
+        },
+        Request::SetPolicy {
+            settings: b.random.bytes(5),
+        },
+        Request::GetLog {
+            identifier: EFFECTS_IDENTIFIER,
+            offset: 0,
+            length: 4,
+        },
+        Request::ClearPoison {
+            address: 64,
+            data: [0x77; 64],
+        },
+        Request::Identify,
+    ];
+    let mut records: Vec<Record> = requests
+        .into_iter()
+        .map(|request| Record::Request {
+            room: 100,
+            fill: 0x5a,
+            request,
+        })
+        .collect();
+    let (opcode, reply) = (opcode::GET_TIMESTAMP, b.random.bytes(8));
+    records.extend([
+        Record::Reply {
+            opcode,
+            asked: 0,
+            reply: reply.clone(),
+        },
+        Record::Rewrite {
+            opcode,
+            asked: 0,
+            room: 8,
+            fill: 0x5a,
+            reply,
+        },
+        Record::Walk {
+            address: 0,
+            lines: 9,
+            room: 16,
+            fill: 0x5a,
+        },
+    ]);
+    records
 }
 
 /// "An empty input prints nothing. The first record must be a make."
@@ -256,7 +325,38 @@ fn over_limit(b: &mut Builder, records: &[Record], part: usize) {
     }
 }
 
-/// A payload and a record of 4,096 bytes, cut in the middle and before the last.
+/// Heads of records of the host's side with a size over its limit, an n that 0103h does
+/// not have or an opcode that the record does not know.
+const HOST_SIZES: [&[u8]; 18] = [
+    b"RQ\x00\x40\x01\x10\xaa",
+    b"RQ\x00\x40\xff\xff\xaa",
+    b"RQ\x01\x01\x00\x10\xaa\x00\x00\xe9\x03",
+    b"RQ\x01\x01\x00\x10\xaa\x00\x00\xff\xff",
+    b"RQ\x03\x01\x00\x10\xaa\x00",
+    b"RQ\x03\x01\x00\x10\xaa\x03",
+    b"RQ\x03\x01\x00\x10\xaa\x06",
+    b"RQ\x03\x01\x00\x10\xaa\xff",
+    b"RQ\x04\x01\x00\x10\xaa",
+    b"RQ\x02\x41\x00\x10\xaa",
+    b"RP\x01\x04\x01\x10\x00\x00\x01\x10",
+    b"RP\x01\x04\xff\xff\x00\x00\xff\xff",
+    b"RP\x04\x01\x00\x00\x00\x00\x00\x00",
+    b"RW\x01\x43\x00\x00\x00\x00\x01\x10\xaa\x00\x00",
+    b"RW\x01\x04\x01\x10\x00\x00\x00\x10\xaa\x01\x10",
+    b"RW\x00\x42\x00\x00\x00\x00\x00\x10\xaa\x00\x00",
+    b"WK\x00\x00\x00\x00\x00\x00\x00\x00\x01\x00\x00\x00\x00\x00\x00\x00\x01\x00\x01\x00\xaa",
+    b"WK\x00\x00\x00\x00\x00\x00\x00\x00\x01\x00\x00\x00\x00\x00\x00\x00\xff\xff\xff\xff\xaa",
+];
+
+/// Such a head with nothing, few or enough bytes after it.
+fn host_sizes(b: &mut Builder, records: &[Record], part: usize) {
+    some_records(b);
+    b.push_bytes(HOST_SIZES[part / 3]);
+    b.push_bytes(&vec![0; [0, 9, MOST + 1][part % 3]]);
+    push_record(b, &records[0]);
+}
+
+/// A payload, a record and a reply of 4,096 bytes, cut in the middle and before the last.
 fn cut_great(b: &mut Builder, _: &[Record], part: usize) {
     some_records(b);
     let great = b.random.bytes(MOST);
@@ -268,10 +368,15 @@ fn cut_great(b: &mut Builder, _: &[Record], part: usize) {
             fill: 0,
             payload: great,
         },
-        _ => Record::Event {
+        1 => Record::Event {
             time: 0,
             log: 0,
             record: great,
+        },
+        _ => Record::Reply {
+            opcode: opcode::GET_LOG,
+            asked: MOST as u32,
+            reply: great,
         },
     };
     let bytes = b.bytes_of(&record);

@@ -4,6 +4,7 @@
 pub mod builder;
 pub mod commands;
 pub mod events;
+pub mod host;
 pub mod malformed;
 pub mod poison;
 pub mod probe;
@@ -275,12 +276,33 @@ pub const PROBE_PROFILES: &[Profile] = &[
         "malformed",
         malformed::PROBE_STREAMS,
         malformed::probe,
-        "bad streams of every kind, marks of later requests, a cut at every place (366 streams)",
+        "bad streams of every kind, marks of later requests, a cut at every place (637 streams)",
     ),
     one(
         "everything",
         probe::everything,
         "all calls of probe mixed, makes and every size included",
+    ),
+    one(
+        "host-requests",
+        host::requests,
+        "every request in rooms about its need, handles about 255",
+    ),
+    one(
+        "host-replies",
+        host::replies,
+        "made-up replies read and written again: cut, counts that lie, reserved bits, any bytes",
+    ),
+    one(
+        "host-device-replies",
+        host::device_replies,
+        "replies that the device gives, read and written again, some altered",
+    ),
+    several(
+        "host-walks",
+        host::WALK_STREAMS,
+        host::walks,
+        "walks of lists of 0 to 256 entries that halving cuts, refused ranges (7 streams)",
     ),
     large(
         "long",
@@ -292,7 +314,7 @@ pub const PROBE_PROFILES: &[Profile] = &[
 /// Seeds `compare` runs where none are given: two rounds of [`SEED_ROUND`].
 pub const DEFAULT_SEEDS: std::ops::Range<u64> = 0..2 * SEED_ROUND;
 /// Each large profile is chosen by one seed of a round.
-const SEED_ROUND: u64 = 105;
+const SEED_ROUND: u64 = 117;
 
 /// Every profile of a format.
 pub fn profiles(format: Format) -> Vec<&'static Profile> {

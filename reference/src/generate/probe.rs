@@ -2,6 +2,7 @@
 
 use super::builder::Builder;
 use super::commands::{one_step, plausible_payload, UNITS};
+use super::host::host_step;
 use super::poison::{self, fill, poison_step, region};
 use crate::device::numbers::{opcode, LOG_ROOM, MAILBOX};
 use crate::probe::record::{Record, MOST};
@@ -17,7 +18,7 @@ fn codes() -> impl Iterator<Item = u16> {
 
 /// A device with something in every reply: records in the logs, one log past
 /// full, a policy, a clock, and a poison list of more than 126 entries.
-fn busy_device(b: &mut Builder) {
+pub fn busy_device(b: &mut Builder) {
     b.any_device();
     let value = b.random.bits() >> b.random.below(64);
     b.set_timestamp(value);
@@ -322,7 +323,8 @@ pub fn everything(b: &mut Builder) {
             11 => b.push(Record::Total),
             12 => b.show(),
             13 => last_lines(b),
-            14..=26 => one_step(b),
+            14..=15 => host_step(b),
+            16..=26 => one_step(b),
             _ => poison_step(b, &region),
         }
     }

@@ -108,3 +108,24 @@ pub fn layout(code: u16) -> Option<Layout> {
         _ => return None,
     })
 }
+
+/// The reserved bits of a reply with so many records, by number: bit N is bit N mod 8
+/// of byte N / 8.
+pub fn reserved_bits(layout: Layout, records: usize) -> Vec<usize> {
+    let (head, each) = match layout {
+        Layout::Counted(head, each) => (head, each),
+        _ => return Vec::new(),
+    };
+    let all = (0..records).fold(head.to_vec(), |fields, _| [&fields, each].concat());
+    let mut bits = Vec::new();
+    let mut place = 0;
+    for field in all {
+        match field {
+            Zero(size) => bits.extend(place * 8..(place + size) * 8),
+            AddressAndType => bits.extend(place * 8 + 3..place * 8 + 6),
+            _ => {}
+        }
+        place += field.size();
+    }
+    bits
+}

@@ -2,8 +2,8 @@
 
 use super::layout::{layout, size_of, Field, Layout};
 use super::put;
-use crate::device::numbers::{number, Refusal};
-use crate::device::Config;
+use crate::device::numbers::{number, opcode, Refusal, MAILBOX};
+use crate::device::{Config, Fault};
 
 /// What a field of a reply holds.
 #[derive(Clone, Debug, PartialEq, Eq)]
@@ -46,21 +46,72 @@ impl Unread {
 /// the others do not look at it. None if the opcode is none of the twelve.
 pub fn read(code: u16, asked: u32, bytes: &[u8], config: Config) -> Option<Result<Reply, Unread>> {
     let layout = layout(code)?;
-    Some(match said_length(layout, asked, bytes) {
+    if config.fault.is_some() {
+        return Some(faulty_read(code, layout, asked, bytes, config));
+    }
+    Some(match said_length(layout, asked, bytes, config) {
         Some(length) if length == bytes.len() as u64 => fields(code, layout, bytes, config),
         _ => Err(Unread::Length),
     })
 }
 
+/// The reading with a planted fault.
+fn faulty_read(
+    code: u16,
+    layout: Layout,
+    asked: u32,
+    bytes: &[u8],
+    config: Config,
+) -> Result<Reply, Unread> {
+    if let (Layout::Counted(head, _), true) = (layout, config.has(Fault::ReservedBeforeLength)) {
+        if let Some(head_bytes) = bytes.get(..size_of(head)) {
+            values(head, head_bytes, 0, config)?;
+        }
+    }
+    let length = said_length(layout, asked, bytes, config).ok_or(Unread::Length)? as usize;
+    let bytes = match config.has(Fault::SurplusBytesTaken) {
+        true => bytes.get(..length).ok_or(Unread::Length)?,
+        false => bytes,
+    };
+    let over_mailbox = bytes.len() > MAILBOX && config.has(Fault::ReplyOverMailboxRefused);
+    if length != bytes.len() || over_mailbox {
+        return Err(Unread::Length);
+    }
+    let reserved_flags = [opcode::GET_EVENT_RECORDS, opcode::GET_POISON_LIST].contains(&code);
+    if reserved_flags && config.has(Fault::FlagBitsReserved) && bytes[0] & !3 != 0 {
+        return Err(Unread::Reserved(0));
+    }
+    if code == opcode::IDENTIFY && config.has(Fault::IdentifyZerosReserved) {
+        // Alignment, label size, "0 in 2" and "two zero bytes".
+        let mut zeros = (40..48).chain(56..60).chain(63..67);
+        if let Some(place) = zeros.find(|place| bytes[*place] != 0) {
+            return Err(Unread::Reserved(place));
+        }
+    }
+    let mut reply = fields(code, layout, bytes, config).map_err(|unread| match unread {
+        Unread::Reserved(place) if config.has(Fault::PlaceFrom1) => Unread::Reserved(place + 1),
+        unread => unread,
+    })?;
+    if code == opcode::IDENTIFY && config.has(Fault::IdentifyLastSizeEarly) {
+        reply.head.pop();
+        reply.head.push(Value::Number(number(&bytes[65..67])));
+    }
+    Ok(reply)
+}
+
 /// The length that the reply's count, its fixed size or the length asked says; None
 /// where the reply ends before its count.
-fn said_length(layout: Layout, asked: u32, bytes: &[u8]) -> Option<u64> {
+fn said_length(layout: Layout, asked: u32, bytes: &[u8], config: Config) -> Option<u64> {
     Some(match layout {
         Layout::Fixed(fields) => size_of(fields) as u64,
         Layout::Counted(head, each) => {
-            let count = count_in(head, bytes)?;
+            let mut count = count_in(head, bytes)?;
+            if config.has(Fault::CountInOneByte) {
+                count %= 256;
+            }
             size_of(head) as u64 + count * size_of(each) as u64
         }
+        Layout::Asked if config.has(Fault::AskedIgnored) => bytes.len() as u64,
         Layout::Asked => asked.into(),
     })
 }
@@ -106,7 +157,7 @@ fn values(
     fields: &[Field],
     bytes: &[u8],
     mut place: usize,
-    _config: Config,
+    config: Config,
 ) -> Result<Vec<Value>, Unread> {
     let mut values = Vec::new();
     let mut rest = bytes;
@@ -115,13 +166,14 @@ fn values(
         match field {
             Field::Number(_) | Field::Count => values.push(Value::Number(number(own))),
             Field::Bytes(_) => values.push(Value::Bytes(own.to_vec())),
+            Field::Zero(_) if unseen_zeros(place, fields, config) => {}
             Field::Zero(_) => {
                 if let Some(at) = own.iter().position(|byte| *byte != 0) {
                     return Err(Unread::Reserved(place + at));
                 }
             }
             Field::AddressAndType => {
-                if own[0] & RESERVED != 0 {
+                if own[0] & RESERVED != 0 && !config.has(Fault::AddressBitsIgnored) {
                     return Err(Unread::Reserved(place));
                 }
                 let both = number(own);
@@ -133,6 +185,16 @@ fn values(
         rest = others;
     }
     Ok(values)
+}
+
+/// Whether a planted fault does not look at these zero bytes: those of a record, or
+/// the second zero byte of a reply.
+fn unseen_zeros(place: usize, fields: &[Field], config: Config) -> bool {
+    match config.fault {
+        Some(Fault::RecordZerosIgnored) => fields[0] == Field::AddressAndType,
+        Some(Fault::ByteAfterFlagsIgnored) => place == 1,
+        _ => false,
+    }
 }
 
 /// "bits 3 to 5 of a record's address", which are in its lowest byte.
@@ -198,9 +260,18 @@ pub fn write_again(
     room: &mut [u8],
     config: Config,
 ) -> Option<(u16, usize)> {
-    let written = match read(code, asked, bytes, config)? {
+    let mut written = match read(code, asked, bytes, config)? {
         Ok(reply) => Ok(reply.bytes()),
         Err(unread) => Err(unread.refusal()),
     };
-    Some(put(written, room))
+    if config.has(Fault::RoomBeforeReading) && bytes.len() > room.len() {
+        written = Err(Refusal::ReplyBufferTooSmall);
+    }
+    if let (Ok([flags, ..]), true) = (
+        written.as_deref_mut(),
+        code == opcode::GET_POISON_LIST && config.has(Fault::FlagBitsNotWritten),
+    ) {
+        *flags &= 3;
+    }
+    Some(put(written, room, config))
 }

@@ -1,8 +1,8 @@
 //! The requests of the twelve commands, built from their fields.
 
-use super::put;
+use super::{fits, put};
 use crate::device::numbers::{opcode, Refusal};
-use crate::device::Config;
+use crate::device::{Config, Fault};
 
 /// A request with the fields that document 01 names in its payload.
 #[derive(Clone, Debug, PartialEq, Eq)]
@@ -112,15 +112,17 @@ impl Request {
 
     /// Builds the payload in the caller's room: the return number and the length.
     /// 0100h for the room first, "then 0016h for over 255 handles".
-    pub fn build(&self, room: &mut [u8], _config: Config) -> (u16, usize) {
+    pub fn build(&self, room: &mut [u8], config: Config) -> (u16, usize) {
         let payload = self.payload();
+        let roomy = fits(payload.len(), room.len(), config);
         let too_many = match self {
             Request::ClearEventRecords { handles, .. } => handles.len() > MOST_HANDLES,
             _ => false,
         };
-        match too_many && payload.len() <= room.len() {
-            true => put(Err(Refusal::InvalidPayloadLength), room),
-            false => put(Ok(payload), room),
+        let counted = too_many && !config.has(Fault::HandlesOver255Taken);
+        match counted && (roomy || config.has(Fault::HandlesBeforeRoom)) {
+            true => put(Err(Refusal::InvalidPayloadLength), room, config),
+            false => put(Ok(payload), room, config),
         }
     }
 }

@@ -5,7 +5,7 @@
 use super::put;
 use super::request::Request;
 use crate::device::numbers::{number, Refusal, MAILBOX};
-use crate::device::{Config, Device};
+use crate::device::{Config, Device, Fault};
 
 /// A reply of Get Poison List has its records after this many bytes.
 const HEAD: usize = 32;
@@ -22,8 +22,28 @@ pub fn walk(
     // Get Poison List changes nothing; the mailbox command may, so it gets a copy.
     let mut device = device.clone();
     let mut records = Vec::new();
-    let walked = part(&mut device, address, lines, &mut records, config);
-    put(walked.map(|()| records), room)
+    let mut walked = part(&mut device, address, lines, &mut records, config);
+    if config.has(Fault::WalkRefusedIsEmpty) {
+        walked = Ok(());
+    }
+    if config.has(Fault::WalkJoinsNeighbours) {
+        records = joined(&records);
+    }
+    put(walked.map(|()| records), room, config)
+}
+
+/// The records with those that touch and are of one type made one (a planted fault).
+fn joined(records: &[u8]) -> Vec<u8> {
+    let mut out: Vec<(u64, u64)> = Vec::new();
+    for record in records.chunks_exact(16) {
+        let (address, lines) = (number(&record[..8]), number(&record[8..12]));
+        match out.last_mut() {
+            Some((last, count)) if *last + *count * 64 == address => *count += lines,
+            _ => out.push((address, lines)),
+        }
+    }
+    let bytes = |(address, lines): (u64, u64)| [address.to_le_bytes(), lines.to_le_bytes()];
+    out.into_iter().flat_map(bytes).flatten().collect()
 }
 
 /// Appends the records of one range. "a walk over a range the device refuses gives
@@ -38,12 +58,24 @@ fn part(
 ) -> Result<(), Refusal> {
     let reply = ask(device, address, lines)?;
     // "Flag bit 0: more than 126 entries share a line with the range"
-    let more = reply[0] & 1 == 1;
+    let more = reply[0] & 1 == 1 && !config.has(Fault::WalkStopsAt126);
     if more && lines > 1 {
-        let first = lines / 2;
+        let first = match config.has(Fault::WalkOddLineFirst) {
+            true => lines - lines / 2,
+            false => lines / 2,
+        };
         let middle = address + first * 64;
         part(device, address, first, records, config)?;
-        return part(device, middle, lines - first, records, config);
+        return match config.fault {
+            Some(Fault::WalkSecondHalfSkipped) => Ok(()),
+            // Only where the first half is not halved again: the walk would not end in
+            // any time worth waiting for.
+            Some(Fault::WalkFirstHalfTwice) if ask(device, address, first)?[0] & 1 == 0 => {
+                part(device, address, first, records, config)
+            }
+            Some(Fault::WalkOddLineLost) => part(device, middle, lines / 2, records, config),
+            _ => part(device, middle, lines - first, records, config),
+        };
     }
     let count = number(&reply[10..12]) as usize;
     records.extend(&reply[HEAD..HEAD + count * 16]);
