@@ -130,8 +130,8 @@ fn about(b: &mut Builder, need: usize, most: usize) -> usize {
     b.random.pick(&near).min(most)
 }
 
-/// Made-up replies: well formed, cut, longer, with counts that lie, with reserved bits
-/// set, and arbitrary bytes.
+/// Made-up replies: well formed, cut, longer, with wrong counts, with reserved bits set,
+/// and arbitrary bytes.
 pub fn replies(b: &mut Builder) {
     b.any_device();
     every_reserved_bit(b);
@@ -150,7 +150,7 @@ pub fn replies(b: &mut Builder) {
                 let surplus = b.random.pick(&[1, 1, 16, 20, 128]);
                 reply.resize((reply.len() + surplus).min(MOST), 0);
             }
-            5 => lie(b, code, &mut asked, &mut reply),
+            5 => wrong_count(b, code, &mut asked, &mut reply),
             6..=8 => {
                 // Two reserved bits at times with a wrong length.
                 for _ in 0..b.random.pick(&[1, 2]) {
@@ -244,7 +244,7 @@ fn put_any(b: &mut Builder, fields: &[Field], records: usize, out: &mut Vec<u8>)
 }
 
 /// Another count, or another length asked.
-fn lie(b: &mut Builder, code: u16, asked: &mut u32, reply: &mut [u8]) {
+fn wrong_count(b: &mut Builder, code: u16, asked: &mut u32, reply: &mut [u8]) {
     let at = match code {
         opcode::GET_EVENT_RECORDS => 20,
         opcode::GET_SUPPORTED_LOGS => 0,

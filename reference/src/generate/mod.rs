@@ -291,7 +291,7 @@ pub const PROBE_PROFILES: &[Profile] = &[
     one(
         "host-replies",
         host::replies,
-        "made-up replies read and written again: cut, counts that lie, reserved bits, any bytes",
+        "made-up replies read and written again: cut, wrong counts, reserved bits, any bytes",
     ),
     one(
         "host-device-replies",

@@ -7,7 +7,7 @@ use Field::*;
 /// A field of a reply.
 #[derive(Clone, Copy, Debug, PartialEq, Eq)]
 pub enum Field {
-    /// A number of so many bytes, "read and kept whatever it holds".
+    /// A number of so many bytes, read and kept whatever it holds.
     Number(usize),
     /// So many bytes, kept as they are.
     Bytes(usize),

@@ -114,13 +114,13 @@ impl Request {
     /// 0100h for the room first, "then 0016h for over 255 handles".
     pub fn build(&self, room: &mut [u8], config: Config) -> (u16, usize) {
         let payload = self.payload();
-        let roomy = fits(payload.len(), room.len(), config);
+        let enough = fits(payload.len(), room.len(), config);
         let too_many = match self {
             Request::ClearEventRecords { handles, .. } => handles.len() > MOST_HANDLES,
             _ => false,
         };
         let counted = too_many && !config.has(Fault::HandlesOver255Taken);
-        match counted && (roomy || config.has(Fault::HandlesBeforeRoom)) {
+        match counted && (enough || config.has(Fault::HandlesBeforeRoom)) {
             true => put(Err(Refusal::InvalidPayloadLength), room, config),
             false => put(Ok(payload), room, config),
         }
