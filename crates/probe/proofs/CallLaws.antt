@@ -24,12 +24,12 @@ use Rattle.protocol.specs.Records.{mark-of, NW, CM, EV, MD, LT, ES, DT, RQ, RP,
 use Rattle.protocol.specs.Calls.{new-call, media-call, line-call}
 use Rattle.protocol.specs.Contracts.{PutsLine, Serves}
 use Rattle.protocol.proofs.Laws.{reply-fits, puts-line-as, serves-as}
-use Rattle.probe.specs.Lines.{still, buffer-line}
-use Rattle.probe.proofs.BufferLaws.{always-kept}
-use Rattle.probe.specs.HostRequests.{serve-request}
-use Rattle.probe.specs.HostReplies.{serve-reply}
-use Rattle.probe.specs.HostRewrites.{serve-again}
-use Rattle.probe.specs.HostWalks.{serve-walk}
+use Rattle.host_records.specs.Lines.{still, buffer-line}
+use Rattle.host_records.proofs.Laws.{always-kept}
+use Rattle.host_records.specs.HostRequests.{serve-request}
+use Rattle.host_records.specs.HostReplies.{serve-reply}
+use Rattle.host_records.specs.HostRewrites.{serve-again}
+use Rattle.host_records.specs.HostWalks.{serve-walk}
 use Rattle.probe.specs.Calls.{command-call, filled, event-call, serve-new, serve-command, serve-event, serve-media, serve-line, serve-status, serve-total, serve-record}
 
 -- a buffer of the record's room is as long as the one that was filled

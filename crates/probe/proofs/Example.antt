@@ -18,11 +18,11 @@ use Rattle.host.specs.Replies.{read-timestamp, list-fields, read-poison-list, p
 use Rattle.host.specs.Walk.{halves, walked, walk}
 use Rattle.host.specs.Walking.{walk-on}
 use Rattle.protocol.specs.HostFormats.{request-head, request-within, request-rest}
-use Rattle.probe.specs.Lines.{still, buffer-line, written-line}
-use Rattle.probe.specs.HostRequests.{request-of, request-built, serve-request}
-use Rattle.probe.specs.HostReplies.{each-of, record-columns, refusal-line, line-of, reply-line, serve-reply}
-use Rattle.probe.specs.HostRewrites.{read-then, written-again, serve-again}
-use Rattle.probe.specs.HostWalks.{serve-walk}
+use Rattle.host_records.specs.Lines.{still, buffer-line, written-line}
+use Rattle.host_records.specs.HostRequests.{request-of, request-built, serve-request}
+use Rattle.host_records.specs.HostReplies.{each-of, record-columns, refusal-line, line-of, reply-line, serve-reply}
+use Rattle.host_records.specs.HostRewrites.{read-then, written-again, serve-again}
+use Rattle.host_records.specs.HostWalks.{serve-walk}
 use Rattle.probe.specs.Calls.{serve-new, serve-command, serve-event, serve-media, serve-line, serve-status, serve-total, serve-record, probe}
 
 -- "NW 0 0; LT at the last line of one unit, and past it; CM 0300h with a room of 0, and of 2,048 bytes of 55h; EV of one byte; MD of type 3; MD address 64, 2 lines,

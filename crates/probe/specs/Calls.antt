@@ -17,11 +17,11 @@ use Rattle.protocol.specs.Records.{mark-of, NW, CM, EV, MD, LT, ES, DT, RQ, RP,
 use Rattle.protocol.specs.Formats.{fixed, head, size}
 use Rattle.protocol.specs.Calls.{new-call, media-call, line-call}
 use Rattle.protocol.specs.Runs.{Printed, Program}
-use Rattle.probe.specs.Lines.{buffer-line}
-use Rattle.probe.specs.HostRequests.{serve-request}
-use Rattle.probe.specs.HostReplies.{serve-reply}
-use Rattle.probe.specs.HostRewrites.{serve-again}
-use Rattle.probe.specs.HostWalks.{serve-walk}
+use Rattle.host_records.specs.Lines.{buffer-line}
+use Rattle.host_records.specs.HostRequests.{serve-request}
+use Rattle.host_records.specs.HostReplies.{serve-reply}
+use Rattle.host_records.specs.HostRewrites.{serve-again}
+use Rattle.host_records.specs.HostWalks.{serve-walk}
 
 -- `CM` "time 8, opcode 2, room 2, fill 1, length 2, payload"
 abbrev pub command-call : DeviceState → List ℕ → Outcome

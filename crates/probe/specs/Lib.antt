@@ -1,7 +1,3 @@
--- The definitions that the contracts of crate `probe` cite, by subject; those that it shares with `bench` are in `protocol`.
-pub mod Lines
-pub mod HostWalks
-pub mod HostRequests
-pub mod HostReplies
-pub mod HostRewrites
+-- The definitions that the contracts of crate `probe` cite; those that it shares with `bench` are in `protocol`, those of the records that call the host library in
+-- `host_records`.
 pub mod Calls

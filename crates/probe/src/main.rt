@@ -1,12 +1,7 @@
 // The probe program (document 10): reads records from standard input, makes each record's call with a buffer of the size that it asks for, and prints the whole
 // answer. One record is in memory at a time; the input may have any length. That it is safe and ends is proved, and so is every record's call and line; what the
 // system's calls read and write is tested.
-mod buffer;
-mod replies;
-mod requests;
-mod rewrites;
 mod serve;
-mod walks;
 
 use protocol::stream;
 

@@ -1,11 +1,11 @@
 // Each record given to the device, and its line printed (document 10, "Records of the base"). A record's function gives the device that follows.
 // The records of the host library have modules of their own.
-use crate::buffer;
-use crate::buffer::LINE_ROOM;
-use crate::replies;
-use crate::requests;
-use crate::rewrites;
-use crate::walks;
+use host_records::buffer;
+use host_records::buffer::LINE_ROOM;
+use host_records::replies;
+use host_records::requests;
+use host_records::rewrites;
+use host_records::walks;
 use mailbox::device::Answer;
 use mailbox::device::Device;
 use mailbox::device_calls::EventAnswer;
@@ -29,7 +29,7 @@ ghost use Rattle.protocol.specs.Stream.{unread};
 ghost use Rattle.protocol.specs.Formats.{Ready};
 ghost use Rattle.protocol.specs.Contracts.{Serves};
 ghost use Rattle.protocol.specs.Runs.{machine-of, Ends};
-ghost use Rattle.probe.specs.Lines.{line-room};
+ghost use Rattle.host_records.specs.Lines.{line-room};
 ghost use Rattle.probe.specs.Calls.{command-call, filled, event-call, serve-new, serve-command, serve-event, serve-media, serve-line, serve-status, serve-total, serve-record, probe};
 
 // NW (volatile 2, persistent 2): the device made takes the place of the old one, also where it stands beside a refusal.
