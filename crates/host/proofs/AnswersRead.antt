@@ -38,7 +38,7 @@ use Rattle.host.specs.Replies.{read-timestamp, read-supported-logs, logs
 use Rattle.host.specs.Fields.{IdentityWidths}
 use Rattle.host.specs.DeviceReplies.{reading-code, Plain, Holds, EventsTold, PolicyTold, TimeTold, LogsTold, LogTold, IdentityTold, ListTold}
 use Rattle.host.specs.DeviceReplies as Told
-use Rattle.host.proofs.Taking.{number-read}
+use Rattle.wire.proofs.Splice.{number-read}
 use Rattle.host.proofs.Accepted.{policy-taken, time-taken, log-taken, nothing-taken}
 use Rattle.host.proofs.Rereading.{logs-reread, identity-reads}
 use Rattle.host.proofs.DeviceReplies.{log-holds, list-holds}

@@ -10,7 +10,7 @@ use Rattle.poison.specs.State.{Entry, shape, shapes, capacity, Typed}
 use Rattle.events.specs.Log.{new, no-log}
 use Rattle.mailbox.specs.DeviceCalls.{new-device}
 use Rattle.host.specs.DeviceReplies.{PlainLog, Recordable, Plain}
-use Rattle.host.proofs.WalkLines.{chain-length}
+use Rattle.poison.proofs.Laws.{chain-length}
 
 pub recordable : (lo hi : ℕ) (es : List Entry) → Chain lo hi (shapes es) → hi ≤ capacity → Typed es → Recordable es
 recordable lo hi [] c h t = tt

@@ -11,8 +11,8 @@ use lib.Seq.{drop-at}
 use borrow.Author.Tests.{eq-eqb, eqb-true, le-leb, ltb-true}
 use Rattle.wire.specs.Wire.{le, number, part, field}
 use Rattle.wire.specs.Returns.{need}
-use Rattle.wire.proofs.Laws.{length-le}
-use Rattle.wire.proofs.Splice.{number-le, field-front, field-past, part-front}
+use Rattle.wire.proofs.Laws.{length-le, part-whole}
+use Rattle.wire.proofs.Splice.{number-le, field-front, field-past, part-front, number-read}
 use Rattle.events.specs.Get.{header}
 use Rattle.host.specs.declared.counted.Kind.{Kind}
 use Rattle.host.specs.declared.counted.Kind.the-variants.{EventRecords, SupportedLogs, PoisonList}
@@ -20,14 +20,12 @@ use Rattle.host.specs.declared.counted.Verdict.{Verdict}
 use Rattle.host.specs.declared.reply.EventFields.{EventFields}
 use Rattle.host.specs.declared.reply.IdentityFields.{IdentityFields}
 use Rattle.host.specs.declared.reply.ListFields.{ListFields}
-use Rattle.host.specs.Done.{written, refused}
+use Rattle.wire.specs.Done.{written, refused}
 use Rattle.host.specs.Counted.{header-size, count-place, record-size, reserved, first-reserved, verdict-of, verdict, writing-verdict, rewritten}
 use Rattle.host.specs.Replies.{event-fields, read-event-records, event-header, read-policy, read-timestamp, read-supported-logs, logs-header, read-log}
 use Rattle.host.specs.Replies.{list-fields, read-poison-list, list-header}
 use Rattle.host.specs.Replies.{identity-fields, read-identity, identity-limits, identity-bytes, write-identity, read-nothing, write-bytes}
 use Rattle.host.specs.Fields.{Good, EventWidths, ListWidths, IdentityWidths, SameFields}
-use Rattle.host.proofs.RequestLaws.{part-whole}
-use Rattle.host.proofs.Taking.{number-read}
 use Rattle.host.proofs.CountedLaws.{count-inside}
 use Rattle.host.proofs.Bytes.{reserved-append}
 use Rattle.host.proofs.Accepted.{zero-verdict, events-taken, logs-taken, list-taken, policy-taken, time-taken, identity-taken, log-taken, nothing-taken}

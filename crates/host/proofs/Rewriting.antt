@@ -11,13 +11,13 @@ use Rattle.wire.specs.Wire.{le, field}
 use Rattle.host.specs.declared.counted.Kind.{Kind}
 use Rattle.host.specs.declared.counted.Kind.the-variants.{EventRecords, SupportedLogs, PoisonList}
 use Rattle.events.specs.Get.{header}
-use Rattle.host.specs.Done.{written}
+use Rattle.wire.specs.Done.{written}
 use Rattle.host.specs.Counted.{header-size, count-place, record-size, first-reserved, verdict-of, writing-verdict, rewritten}
 use Rattle.host.specs.Replies.{event-fields, read-event-records, event-header, read-policy, read-timestamp, read-supported-logs, logs-header, read-log}
 use Rattle.host.specs.Replies.{list-fields, read-poison-list, list-header}
 use Rattle.host.specs.Replies.{identity-fields, read-identity, identity-limits, identity-bytes, write-identity, read-nothing, write-bytes}
 use Rattle.host.specs.Fields.{Bytes, Good, SameBytes}
-use Rattle.host.proofs.RequestLaws.{part-whole}
+use Rattle.wire.proofs.Laws.{part-whole}
 use Rattle.host.proofs.CountedLaws.{written-verdict, events-first, events-middle, logs-middle, list-first, list-middle}
 use Rattle.host.proofs.Bytes.{le-field, field-small, parts-joined, next-field, front-field, front-zero, front, none-reserved}
 use Rattle.host.proofs.Accepted.{verdict-zero, clear-at, events-code, logs-code, list-code, policy-code, time-code, identity-code, nothing-code}

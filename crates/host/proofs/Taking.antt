@@ -8,12 +8,12 @@ use native.Mathlib.Omega.{arith}
 use native.Mathlib.Decide.{ℕ-discrete}
 use lib.Dec.{eqb, leb, ltb}
 use lib.ListN.{length, take, drop, getD, length-append}
-use lib.Seq.{take-at, take-all}
+use lib.Seq.{take-at}
 use borrow.Author.Tests.{le-leb, leb-true, eq-eqb, ne-eqb, eqb-true}
-use Rattle.wire.specs.Wire.{le, number, part, field, splice, same}
+use Rattle.wire.specs.Wire.{le, number, splice, same}
 use Rattle.wire.specs.Returns.{success, invalid-input, invalid-length, small-buffer, need}
-use Rattle.wire.proofs.Laws.{length-le}
-use Rattle.wire.proofs.Splice.{field-front, field-past, number-le, part-front, part-past}
+use Rattle.wire.proofs.Laws.{length-le, part-whole}
+use Rattle.wire.proofs.Splice.{field-front, field-past, number-read, part-front, part-past}
 use Rattle.events.specs.Log.{LogState, log-at}
 use Rattle.events.specs.Get as Get
 use Rattle.events.specs.Clear as Clear
@@ -33,12 +33,11 @@ use Rattle.poison.specs.Inject.{injects, after-inject}
 use Rattle.poison.specs.Clear.{after-clear}
 use Rattle.mailbox.specs.Mailbox.{run-command, outcome}
 use Rattle.mailbox.proofs.Laws.{admitted-runs, clear-events-admitted}
-use Rattle.host.specs.declared.done.Done.{Done}
-use Rattle.host.specs.Done.{Written, Writes, written}
-use Rattle.host.specs.Done as Room
+use Rattle.wire.specs.declared.done.Done.{Done}
+use Rattle.wire.specs.Done.{Written, Writes, written}
+use Rattle.wire.specs.Done as Room
 use Rattle.host.specs.Requests.{Request, opcode, payload, countable, build}
 use Rattle.host.specs.Requests as Q
-use Rattle.host.proofs.RequestLaws.{part-whole}
 use Rattle.host.specs.Meant.{meant, FieldsRead, Widths, Taken, cleared, clearing, clearing-code}
 
 -- a request whose payload passes the checks and which the command takes as it is meant
@@ -83,10 +82,6 @@ unfolding opcode payload admission commands run-command meant
 plain-identify = taking Q.identify (λ room h. rw (le-leb mailbox-size room h)) refl (λ d time. refl)
 
 -- ---- one number
-pub number-read : (k n : ℕ) → n < 256 ^ k → field (le k n) 0 k ≡ n
-unfolding field part
-number-read k n h = ap number (take-all k (le k n) (rw length-le (omega arith))) ∙ number-le k n h
-
 set-time-taken : (value : ℕ) → value < 256 ^ 8 → Taken (Q.set-timestamp value)
 unfolding opcode payload admission commands run-command meant Clock.set-timestamp
 set-time-taken value small =

@@ -20,8 +20,8 @@ use Rattle.mailbox.specs.Mailbox.{outcome}
 use Rattle.mailbox.specs.PoisonCommands.{line-of, range-code, list-reply}
 use Rattle.mailbox.specs.Contracts.{Answered}
 use Rattle.mailbox.proofs.Laws.{range-ends}
-use Rattle.host.specs.declared.done.Done.{Done}
-use Rattle.host.specs.Done.{Written, written, refused, Writes}
+use Rattle.wire.specs.declared.done.Done.{Done}
+use Rattle.wire.specs.Done.{Written, written, refused, Writes}
 use Rattle.host.specs.Walking.{walk-of, range-answer, walk-on, walk-answer, Askable, RangeAsked, Wrote}
 use Rattle.host.specs.Requests.{get-poison-list, opcode, payload}
 use Rattle.host.proofs.WalkReplies.{answer-refused, answer-taken}

@@ -15,7 +15,7 @@ use Rattle.wire.proofs.Laws.{and-parts}
 use Rattle.poison.specs.Runs.{end, one-if, slots, Chain}
 use Rattle.poison.specs.State.{Entry, shape, shapes, capacity}
 use Rattle.poison.specs.Range.{kept, shared-start, shared-end, shares, cut-to, sharing}
-use Rattle.poison.proofs.Laws.{chain-sharing, length-records}
+use Rattle.poison.proofs.Laws.{chain-sharing, length-records, chain-length}
 use Rattle.mailbox.specs.declared.device.Device.{Device}
 use Rattle.mailbox.specs.Numbers.{poison-records}
 use Rattle.mailbox.specs.State.{ValidDevice, lines-of, state-of}
@@ -23,7 +23,7 @@ use Rattle.mailbox.specs.PoisonCommands.{line-of}
 use Rattle.host.specs.Walk.{halves, walked, walk}
 use Rattle.host.specs.Walking.{held, walk-of, walk-answer}
 use Rattle.host.proofs.WalkLaws.{two-lines, walk-halved, walk-whole}
-use Rattle.host.proofs.WalkLines.{chain-length, whole}
+use Rattle.host.proofs.WalkLines.{whole}
 use Rattle.host.proofs.WalkCalls.{range-few}
 use Rattle.host.proofs.WalkTheorems.{taken, none-refused, small-only}
 

@@ -12,16 +12,11 @@ use borrow.Author.Tests.{ltb-false}
 use Rattle.poison.specs.Runs.{run, end, in-run, one-if, Chain}
 use Rattle.poison.specs.State.{Entry, shape, shapes, covers, kind-at}
 use Rattle.poison.specs.Range.{sharing}
-use Rattle.poison.proofs.Laws.{Place, low, mid, high, place, below-run, past-run, inside-run, apart, covers-sharing, kind-sharing, chain-sharing}
+use Rattle.poison.proofs.Laws.{Place, low, mid, high, place, below-run, past-run, inside-run, apart, covers-sharing, kind-sharing, chain-sharing, chain-length}
 use Rattle.host.specs.Walk.{halves, walk, times, Lists}
 use Rattle.host.proofs.WalkLaws.{two-lines, walk-halved, walk-whole}
 
 -- ---- entries in order
--- they have a line each
-pub chain-length : (lo hi : ℕ) (es : List Entry) → Chain lo hi (shapes es) → lo + length es ≤ hi
-chain-length lo hi [] c = omega arith
-chain-length lo hi (e ∷ es) c = let i = chain-length (end (shape e)) hi es (c .2) in omega arith
-
 -- those after others
 chain-append : (lo m hi : ℕ) (xs ys : List Entry) → Chain lo m (shapes xs) → Chain m hi (shapes ys) → Chain lo hi (shapes (xs ++ ys))
 chain-append lo m hi [] [] c d = omega arith

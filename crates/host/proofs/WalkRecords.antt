@@ -11,9 +11,9 @@ use Rattle.wire.proofs.Splice.{number-le}
 use Rattle.poison.specs.Runs.{end, Chain}
 use Rattle.poison.specs.State.{Entry, shape, shapes, capacity, Typed}
 use Rattle.poison.specs.Range.{kept, shares, cut-to, sharing, record-bytes, records-bytes}
-use Rattle.poison.proofs.Laws.{unpacked}
+use Rattle.poison.proofs.Laws.{unpacked, chain-length}
 use Rattle.host.specs.Walk.{walk, read-record, read-records}
-use Rattle.host.proofs.WalkLines.{chain-length, holds}
+use Rattle.host.proofs.WalkLines.{holds}
 
 -- ---- one record
 module _ (e : Entry) (rest : List ℕ) (h : end (shape e) ≤ capacity) (k : e .kind < 8) where

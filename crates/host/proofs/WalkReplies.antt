@@ -10,7 +10,7 @@ use lib.Bits.{bitAnd, and-mask}
 use lib.ListN.{length, take, getD, length-append, length-take}
 use borrow.Author.Tests.{ltb-false, eq-eqb, ne-eqb}
 use Rattle.wire.specs.Wire.{le, part, splice}
-use Rattle.wire.proofs.Laws.{length-splice, joined}
+use Rattle.wire.proofs.Laws.{length-splice, joined, copied}
 use Rattle.wire.proofs.Splice.{part-written}
 use Rattle.poison.specs.State as P
 use Rattle.poison.specs.State.{Entry, PoisonState}
@@ -22,12 +22,12 @@ use Rattle.mailbox.specs.Outcome.{Outcome}
 use Rattle.mailbox.specs.State.{lines-of, state-of}
 use Rattle.mailbox.specs.Mailbox.{outcome}
 use Rattle.mailbox.specs.PoisonCommands.{line-of, range-code, list-flags, list-header, list-reply, get-poison-list}
-use Rattle.host.specs.declared.done.Done.{Done}
-use Rattle.host.specs.Done.{Written, Writes, written, refused}
+use Rattle.wire.specs.declared.done.Done.{Done}
+use Rattle.wire.specs.Done.{Written, Writes, written, refused}
 use Rattle.host.specs.Requests.{payload, countable, build}
 use Rattle.host.specs.Requests as Q
 use Rattle.host.specs.Meant.{meant, list-of}
-use Rattle.host.proofs.RequestLaws.{copied, list-long, list-builds}
+use Rattle.host.proofs.RequestLaws.{list-long, list-builds}
 use Rattle.host.proofs.Taking.{taken}
 use Rattle.host.specs.Walk.{halves, first-half}
 use Rattle.host.specs.Walking.{range-answer}

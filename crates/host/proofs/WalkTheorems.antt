@@ -17,8 +17,8 @@ use Rattle.mailbox.specs.declared.device.Device.{Device}
 use Rattle.mailbox.specs.Numbers.{poison-records}
 use Rattle.mailbox.specs.State.{ValidDevice, lines-of, state-of}
 use Rattle.mailbox.specs.PoisonCommands.{aligned, line-of, range-code}
-use Rattle.host.specs.declared.done.Done.{Done}
-use Rattle.host.specs.Done.{Written, written, refused, Writes}
+use Rattle.wire.specs.declared.done.Done.{Done}
+use Rattle.wire.specs.Done.{Written, written, refused, Writes}
 use Rattle.host.specs.Walk.{Lists, read-records}
 use Rattle.host.specs.Walking.{held, walk-of, range-answer, walk-on, walk-answer}
 use Rattle.host.proofs.WalkLines.{walk-lists}

@@ -1,5 +1,4 @@
--- The definitions that the contracts of crate `host` cite, by subject: what a call that writes gives, requests and what they mean, replies, the walk.
-pub mod Done
+-- The definitions that the contracts of crate `host` cite, by subject: requests and what they mean, replies, the walk.
 pub mod Requests
 pub mod Meant
 pub mod Counted

@@ -1,14 +1,14 @@
 // The walk of a device's poison list (document 02, W-202): "ask for a range, and where the reply says more, halve the range and ask for each half, down to one
 // line, an odd line going to the second half".
-use crate::done::Done;
 use crate::request;
 use mailbox::device::Device;
+use wire::done::Done;
 use wire::returns;
 ghost use mathlib.Core.Path.{_≡_};
 ghost use Prim.Native.Nat.{_+_, _-_, _*_, _≤_};
 ghost use lib.ListN.{length};
 ghost use Rattle.mailbox.specs.State.{ValidDevice};
-ghost use Rattle.host.specs.Done.{Writes};
+ghost use Rattle.wire.specs.Done.{Writes};
 ghost use Rattle.host.specs.Walk.{first-half};
 ghost use Rattle.host.specs.Walking.{Askable, RangeAsked, Copied, Wrote, range-answer, walk-of, walk-answer};
 

@@ -13,8 +13,8 @@ use Rattle.wire.proofs.Laws.{length-part}
 use Rattle.events.specs.Clear.{handles-at}
 use Rattle.mailbox.specs.declared.device.Device.{Device}
 use Rattle.mailbox.specs.State.{ValidDevice, state-of}
-use Rattle.host.specs.declared.done.Done.{Done}
-use Rattle.host.specs.Done.{Written, written, Writes}
+use Rattle.wire.specs.declared.done.Done.{Done}
+use Rattle.wire.specs.Done.{Written, written, Writes}
 use Rattle.host.specs.Requests.{Request, build}
 use Rattle.host.specs.Walking.{walk-answer}
 use Rattle.protocol.specs.HostFormats.{opcode-of, request-head, knows}

@@ -15,8 +15,8 @@ use Rattle.host.specs.declared.counted.Rewritten.{Rewritten}
 use Rattle.host.specs.declared.reply.EventsRead.{EventsRead}
 use Rattle.host.specs.declared.reply.LogsRead.{LogsRead}
 use Rattle.host.specs.declared.reply.ListRead.{ListRead}
-use Rattle.host.specs.declared.done.Done.{Done}
-use Rattle.host.specs.Done.{Written, refused, Writes}
+use Rattle.wire.specs.declared.done.Done.{Done}
+use Rattle.wire.specs.Done.{Written, refused, Writes}
 use Rattle.host.specs.Counted.{header-size, record-size, count-place, first-reserved, counted, verdict, verdict-of, Rewrites}
 use Rattle.host.specs.Replies.{event-fields, no-events, read-event-records, read-supported-logs, list-fields, no-list, read-poison-list, read-nothing, write-bytes}
 use Rattle.host_records.specs.HostRewrites.{read-then, counted-again, written-again, again-call}

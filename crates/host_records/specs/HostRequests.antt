@@ -8,7 +8,7 @@ use lib.ListN.{getD, drop}
 use Rattle.wire.specs.Wire.{field, part}
 use Rattle.events.specs.Clear.{handles-at}
 use Rattle.mailbox.specs.State.{DeviceState}
-use Rattle.host.specs.Done.{Written, written}
+use Rattle.wire.specs.Done.{Written, written}
 use Rattle.host.specs.Requests.{Request, get-event-records, clear-event-records, get-event-interrupt-policy, set-event-interrupt-policy, get-timestamp, set-timestamp, get-supported-logs, get-log, identify, get-poison-list, inject-poison, clear-poison, build}
 use Rattle.protocol.specs.Records.{RQ}
 use Rattle.protocol.specs.HostFormats.{opcode-of, knows}

@@ -16,7 +16,7 @@ use Rattle.host.specs.declared.reply.TimeRead.{TimeRead}
 use Rattle.host.specs.declared.reply.LogsRead.{LogsRead}
 use Rattle.host.specs.declared.reply.IdentityRead.{IdentityRead}
 use Rattle.host.specs.declared.reply.ListRead.{ListRead}
-use Rattle.host.specs.Done.{Written, refused}
+use Rattle.wire.specs.Done.{Written, refused}
 use Rattle.host.specs.Counted.{writing-verdict, rewritten}
 use Rattle.host.specs.Replies.{read-event-records, event-header, read-policy, read-timestamp, read-supported-logs, logs-header, read-log, read-identity, write-identity, read-poison-list, list-header, read-nothing, write-bytes}
 use Rattle.protocol.specs.Records.{RW}

@@ -5,7 +5,7 @@ use mathlib.Core.List.{List}
 use lib.ListN.{getD}
 use Rattle.wire.specs.Wire.{field}
 use Rattle.mailbox.specs.State.{DeviceState}
-use Rattle.host.specs.Done.{Written}
+use Rattle.wire.specs.Done.{Written}
 use Rattle.host.specs.Walking.{walk-on}
 use Rattle.protocol.specs.Records.{WK}
 use Rattle.protocol.specs.Runs.{Printed}

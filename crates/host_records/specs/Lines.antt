@@ -6,7 +6,7 @@ use mathlib.Core.List.{List, [], _∷_, _++_}
 use lib.Dec.{eqb}
 use lib.ListN.{length, take, drop, replicate}
 use Rattle.wire.specs.Wire.{splice}
-use Rattle.host.specs.Done.{Written}
+use Rattle.wire.specs.Done.{Written}
 use Rattle.protocol.specs.Text.{column, bytes-column, columns, line-end}
 
 -- "`-` if there are none"

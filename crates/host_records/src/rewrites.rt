@@ -1,18 +1,18 @@
 // The record RW: a reply read by the host library and written again (document 10, "Records that a request brings", W-202), and its line. A reading that is refused
 // gives its number and leaves the room as it was.
 use crate::buffer;
-use host::done::Done;
 use host::reply;
 use host::writing;
 use mailbox::device::Device;
 use protocol::calls::Served;
+use wire::done::Done;
 ghost use mathlib.Core.Path.{_≡_};
 ghost use mathlib.Core.List.{[]};
 ghost use Prim.Native.Nat.{_+_, _≤_, _<_, _^_};
 ghost use lib.ListN.{length, getD, drop, replicate};
 ghost use Rattle.wire.specs.Wire.{field};
 ghost use Rattle.mailbox.specs.State.{ValidDevice, state-of};
-ghost use Rattle.host.specs.Done.{Writes};
+ghost use Rattle.wire.specs.Done.{Writes};
 ghost use Rattle.host.specs.Replies.{read-event-records, read-policy, read-timestamp, read-supported-logs, read-log, read-identity, read-poison-list, read-nothing, write-bytes};
 ghost use Rattle.protocol.specs.HostFormats.{opcode-of};
 ghost use Rattle.protocol.specs.Contracts.{Serves};

@@ -1,15 +1,15 @@
 // The record WK: the walk of the device's poison list (document 10, "Records that a request brings", W-202), and its line.
 use crate::buffer;
-use host::done::Done;
 use host::walk;
 use mailbox::device::Device;
 use protocol::calls::Served;
+use wire::done::Done;
 ghost use mathlib.Core.Path.{_≡_};
 ghost use Prim.Native.Nat.{_+_, _≤_};
 ghost use lib.ListN.{length, getD, replicate};
 ghost use Rattle.wire.specs.Wire.{field};
 ghost use Rattle.mailbox.specs.State.{ValidDevice, state-of};
-ghost use Rattle.host.specs.Done.{Writes};
+ghost use Rattle.wire.specs.Done.{Writes};
 ghost use Rattle.protocol.specs.Contracts.{Serves};
 ghost use Rattle.host_records.specs.Lines.{line-room};
 ghost use Rattle.host_records.specs.HostWalks.{walk-call, serve-walk};

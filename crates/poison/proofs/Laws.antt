@@ -10,7 +10,7 @@ use lib.Dec.{ltb}
 use borrow.Author.Tests.{ltb-true}
 use lib.ListN.{length, take, drop, take-append-drop, length-map, length-take}
 use Rattle.poison.specs.declared.list.PoisonList.{PoisonList}
-use Rattle.poison.specs.Runs.{Run, run, in-run, in-runs, count, Chain, cut, slots, uncovered, room, keeps, before, after}
+use Rattle.poison.specs.Runs.{Run, run, end, in-run, in-runs, count, Chain, cut, slots, uncovered, room, keeps, before, after}
 use Rattle.poison.specs.State.{Entry, PoisonState, shape, shapes, entry, covers, kind-at, insert-entry, insert-entries, entries-of, Typed, ValidList}
 use Rattle.poison.specs.Report.{found, stored-runs, report-entries, lines-stored, lines-dropped, with-drop, after-report}
 use Rattle.poison.specs.Inject.{with-entry, injects, after-inject}
@@ -109,6 +109,11 @@ chain-inject n k kind es c h e = chain-insert-entry n k 1 kind es c (omega arith
 -- After a clear.
 pub chain-clear : (n k : ℕ) (keep : Bool) (es : List Entry) → Chain 0 n (shapes es) → Chain 0 n (shapes (cut-entries keep k es))
 chain-clear n k keep es c = rw (shapes-cut keep k es) (chain-cut 0 n keep k (shapes es) c)
+
+-- They have a line each.
+pub chain-length : (lo hi : ℕ) (es : List Entry) → Chain lo hi (shapes es) → lo + length es ≤ hi
+chain-length lo hi [] c = omega arith
+chain-length lo hi (e ∷ es) c = let i = chain-length (end (shape e)) hi es (c .2) in omega arith
 
 -- ---- at most 256 entries
 -- as many entries more as are put in

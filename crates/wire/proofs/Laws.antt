@@ -1,12 +1,13 @@
--- Laws of the definitions of `specs/`, those of `Wire.antt` each over the width; and two on tests that every layer uses. Assumes nothing.
+-- Laws of the definitions of `specs/`, those of `Wire.antt` each over the width; and two on tests that every layer uses. With `Splice` it is what a crate above may
+-- cite of proofs/ (`tests/layers`). Assumes nothing.
 use mathlib.Core.Path.{_≡_, refl, sym, ap, ap₂, _∙_, subst}
-use mathlib.Core.List.{List, [], _∷_, _++_}
+use mathlib.Core.List.{List, [], _∷_, _++_, append-nil}
 use Prim.Native.Nat.{ℕ, zero, suc, _+_, _-_, _*_, _/_, _%_, _^_, _≤_, _<_}
 use native.Mathlib.Nat.{add-zero, add-suc, suc-add}
 use native.Mathlib.Numerals.{add-one}
 use native.Mathlib.Omega.{arith}
 use lib.ListN.{length, take, drop, getD, set, length-take, length-drop}
-use lib.Seq.{sets, sets-eq, length-sets, drop-cons}
+use lib.Seq.{sets, sets-eq, length-sets, drop-cons, take-all}
 use lib.Pow.{pow-add}
 use native.Mathlib.Nat.{pow-le-pow-right, zero-lt-suc}
 use Rattle.wire.specs.Returns.{need}
@@ -14,6 +15,8 @@ use Rattle.wire.specs.Wire.{le, number, part, field, splice, same}
 use mathlib.Core.Bool.{Bool, true, false, _&&_, cond, false≢true}
 use lib.Dec.{eqb}
 use lib.ListN.{length-append, drop-of-length-le}
+-- What a call that writes to a lent room gives, by its two cases; and what was written lies in the room (`DoneLaws`).
+pub use Rattle.wire.proofs.DoneLaws.{refused-writes, written-writes, written-fits}
 
 pub length-le : (k n : ℕ) → length (le k n) ≡ k
 unfolding le
@@ -23,6 +26,11 @@ length-le (suc k) n = ap suc (length-le k (n / 256))
 pub length-part : (at k : ℕ) (xs : List ℕ) → at + k ≤ length xs → length (part at k xs) ≡ k
 unfolding part
 length-part at k xs h = simp (length-take, length-drop) (omega arith)
+
+-- as many elements as there are: all of them
+pub part-whole : (k : ℕ) (xs : List ℕ) → length xs ≡ k → part 0 k xs ≡ xs
+unfolding part
+part-whole k xs e = take-all k xs (omega arith)
 
 pub length-splice : (at : ℕ) (bs xs : List ℕ) → at + length bs ≤ length xs → length (splice at bs xs) ≡ length xs
 unfolding splice
@@ -110,6 +118,11 @@ joined at j a b xs e h =
     ∙ sym (stores j b (sets xs at a) (rw length-sets h))
     ∙ sets-append a b xs at j e
     ∙ stores at (a ++ b) xs (rw length-append (omega arith))
+
+-- bytes copied over an array of as many
+pub copied : (n : ℕ) (xs ys : List ℕ) → length xs ≡ n → length ys ≡ n → splice 0 xs ys ≡ xs
+unfolding splice
+copied n xs ys e f = ap (λ (l : List ℕ). xs ++ l) (drop-of-length-le ys {i = 0 + length xs} (omega arith)) ∙ append-nil xs
 
 -- a turn of the loop that compares
 pub same-turn : (s t : List ℕ) (at i : ℕ) → i < length t → at + length t ≤ length s

@@ -6,7 +6,7 @@ use Prim.Native.Nat.{ℕ, zero, suc, _+_, _-_, _*_, _/_, _%_, _^_, _≤_, _<_}
 use native.Mathlib.Nat.{div-add-mod', div-lt-iff-lt-mul, pow-suc, zero-lt-suc}
 use native.Mathlib.Omega.{arith}
 use lib.ListN.{length, take, drop, length-take, length-drop, length-append, take-append-drop}
-use lib.Seq.{take-append-le, drop-append-le, drop-append-add, drop-drop, take-at, drop-at}
+use lib.Seq.{take-append-le, drop-append-le, drop-append-add, drop-drop, take-at, take-all, drop-at}
 use Rattle.wire.specs.Wire.{le, number, part, field, splice}
 use Rattle.wire.proofs.Laws.{length-le}
 
@@ -22,6 +22,11 @@ number-le (suc k) n h =
 pub field-le : (k n : ℕ) (b : List ℕ) → n < 256 ^ k → field (le k n ++ b) 0 k ≡ n
 unfolding field part
 field-le k n b h = ap number (take-at (le k n) b k (length-le k n)) ∙ number-le k n h
+
+-- and by itself
+pub number-read : (k n : ℕ) → n < 256 ^ k → field (le k n) 0 k ≡ n
+unfolding field part
+number-read k n h = ap number (take-all k (le k n) (rw length-le (omega arith))) ∙ number-le k n h
 
 -- a part read where a splice wrote it
 pub part-written : (at : ℕ) (bs xs : List ℕ) → at + length bs ≤ length xs → part at (length bs) (splice at bs xs) ≡ bs

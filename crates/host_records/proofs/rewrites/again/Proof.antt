@@ -5,7 +5,7 @@ use borrow.Author.Needs.{needs}
 use lib.ListN.{getD}
 use lib.ListN.{length-replicate}
 use Rattle.wire.specs.Wire.{field}
-use Rattle.host.proofs.Laws.{written-fits}
+use Rattle.wire.proofs.Laws.{written-fits}
 use Rattle.host_records.specs.HostRewrites.{again-call, serve-again}
 use Rattle.host_records.proofs.HostLaws.{written-served}
 use Rattle.host_records.proofs.rewrites.again.Statement.{statement}

@@ -6,7 +6,8 @@ use lib.ListN.{getD}
 use lib.ListN.{length-replicate}
 use Rattle.wire.specs.Wire.{field}
 use Rattle.mailbox.specs.State.{state-of}
-use Rattle.host.proofs.Laws.{written-fits, walk-size}
+use Rattle.wire.proofs.Laws.{written-fits}
+use Rattle.host.proofs.Laws.{walk-size}
 use Rattle.host_records.specs.HostWalks.{walk-call, serve-walk}
 use Rattle.host_records.proofs.HostLaws.{written-served}
 use Rattle.host_records.proofs.walks.walk.Statement.{statement}

@@ -4,9 +4,9 @@ use Prim.Native.Nat.{ℕ}
 use mathlib.Core.Path.{_≡_}
 use mathlib.Core.List.{List, []}
 use lib.ListN.{length}
 use Rattle.wire.specs.Returns.{success}
 use Rattle.wire.specs.Wire.{splice}
-use Rattle.host.specs.declared.done.Done.{Done}
+use Rattle.wire.specs.declared.done.Done.{Done}
 
 pub record Written : Type 0 where
   pub code : ℕ

@@ -1,4 +1,4 @@
-// What a call of this library that writes to a lent room gives.
+// What a call of the host's library that writes to a lent room gives.
 
 // The return number, and how many bytes of the room were written: none where the number is not 0.
 pub struct Done {
