@@ -1,9 +1,6 @@
 -- The laws of the host library, each with its sentence in words; their statements and proofs are in other files, and are passed on from here. This is the one file
 -- of proofs/ that a crate above may cite (`tests/layers`). Assumes nothing.
 
--- A request built from its fields passes the checks before its command's own, has the fields given, and its outcome on any device is the one meant; so has what the
--- code built, where it answers 0.
-pub use Rattle.host.proofs.Taking.{taken, built-taken}
 -- A reply that is read with code 0 and written again is the same bytes, in every room that they fit,
 pub use Rattle.host.proofs.Rewriting.{events-rewritten, policy-rewritten, time-rewritten, logs-rewritten, log-rewritten, identity-rewritten, list-rewritten, nothing-rewritten}
 -- and so are the bytes of one record, from what is read of it.

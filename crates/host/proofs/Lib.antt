@@ -1,6 +1,4 @@
 -- The laws of crate `host` that more than one proof cites, by subject. A crate above cites Laws alone.
-pub mod RequestLaws
-pub mod Taking
 pub mod CountedLaws
 pub mod ReplyLaws
 pub mod WritingLaws

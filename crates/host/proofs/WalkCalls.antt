@@ -23,7 +23,7 @@ use Rattle.mailbox.proofs.Laws.{range-ends}
 use Rattle.wire.specs.declared.done.Done.{Done}
 use Rattle.wire.specs.Done.{Written, written, refused, Writes}
 use Rattle.host.specs.Walking.{walk-of, range-answer, walk-on, walk-answer, Askable, RangeAsked, Wrote}
-use Rattle.host.specs.Requests.{get-poison-list, opcode, payload}
+use Rattle.host_requests.specs.Requests.{get-poison-list, opcode, payload}
 use Rattle.host.proofs.WalkReplies.{answer-refused, answer-taken}
 
 -- ---- a request

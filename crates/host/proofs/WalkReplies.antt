@@ -24,11 +24,10 @@ use Rattle.mailbox.specs.Mailbox.{outcome}
 use Rattle.mailbox.specs.PoisonCommands.{line-of, range-code, list-flags, list-header, list-reply, get-poison-list}
 use Rattle.wire.specs.declared.done.Done.{Done}
 use Rattle.wire.specs.Done.{Written, Writes, written, refused}
-use Rattle.host.specs.Requests.{payload, countable, build}
-use Rattle.host.specs.Requests as Q
-use Rattle.host.specs.Meant.{meant, list-of}
-use Rattle.host.proofs.RequestLaws.{list-long, list-builds}
-use Rattle.host.proofs.Taking.{taken}
+use Rattle.host_requests.specs.Requests.{payload, countable, build}
+use Rattle.host_requests.specs.Requests as Q
+use Rattle.host_requests.specs.Meant.{meant, list-of}
+use Rattle.host_requests.proofs.Laws.{list-long, list-builds, taken}
 use Rattle.host.specs.Walk.{halves, first-half}
 use Rattle.host.specs.Walking.{range-answer}
 

@@ -1,6 +1,4 @@
--- The definitions that the contracts of crate `host` cite, by subject: requests and what they mean, replies, the walk.
-pub mod Requests
-pub mod Meant
+-- The definitions that the contracts of crate `host` cite, by subject: replies, the walk.
 pub mod Counted
 pub mod Replies
 pub mod Fields

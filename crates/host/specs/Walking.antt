@@ -14,7 +14,7 @@ use Rattle.mailbox.specs.State.{DeviceState, ValidDevice, lines-of, state-of}
 use Rattle.mailbox.specs.Mailbox.{outcome}
 use Rattle.mailbox.specs.PoisonCommands.{line-of, range-code, list-reply}
 use Rattle.wire.specs.Done.{Written, written, refused}
-use Rattle.host.specs.Requests.{get-poison-list, opcode, payload}
+use Rattle.host_requests.specs.Requests.{get-poison-list, opcode, payload}
 use Rattle.host.specs.Walk.{walk}
 
 -- the entries that a device holds

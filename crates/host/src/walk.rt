@@ -1,6 +1,6 @@
 // The walk of a device's poison list (document 02, W-202): "ask for a range, and where the reply says more, halve the range and ask for each half, down to one
 // line, an odd line going to the second half".
-use crate::request;
+use host_requests::request;
 use mailbox::device::Device;
 use wire::done::Done;
 use wire::returns;

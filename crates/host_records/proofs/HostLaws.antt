@@ -15,7 +15,7 @@ use Rattle.mailbox.specs.declared.device.Device.{Device}
 use Rattle.mailbox.specs.State.{ValidDevice, state-of}
 use Rattle.wire.specs.declared.done.Done.{Done}
 use Rattle.wire.specs.Done.{Written, written, Writes}
-use Rattle.host.specs.Requests.{Request, build}
+use Rattle.host_requests.specs.Requests.{Request, build}
 use Rattle.host.specs.Walking.{walk-answer}
 use Rattle.protocol.specs.HostFormats.{opcode-of, request-head, knows}
 use Rattle.protocol.specs.Contracts.{PutsLine, Serves}

@@ -9,7 +9,7 @@ use Rattle.wire.specs.Wire.{field, part}
 use Rattle.events.specs.Clear.{handles-at}
 use Rattle.mailbox.specs.State.{DeviceState}
 use Rattle.wire.specs.Done.{Written, written}
-use Rattle.host.specs.Requests.{Request, get-event-records, clear-event-records, get-event-interrupt-policy, set-event-interrupt-policy, get-timestamp, set-timestamp, get-supported-logs, get-log, identify, get-poison-list, inject-poison, clear-poison, build}
+use Rattle.host_requests.specs.Requests.{Request, get-event-records, clear-event-records, get-event-interrupt-policy, set-event-interrupt-policy, get-timestamp, set-timestamp, get-supported-logs, get-log, identify, get-poison-list, inject-poison, clear-poison, build}
 use Rattle.protocol.specs.Records.{RQ}
 use Rattle.protocol.specs.HostFormats.{opcode-of, knows}
 use Rattle.protocol.specs.Runs.{Printed}

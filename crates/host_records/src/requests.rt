@@ -1,7 +1,7 @@
 // The record RQ: a request built by the host library (document 10, "Records that a request brings", W-202), and its line. A field stands after the record's fixed
 // part, which is opcode 2, room 2, fill 1.
 use crate::buffer;
-use host::request;
+use host_requests::request;
 use mailbox::device::Device;
 use protocol::calls::Served;
 use wire::done::Done;
@@ -12,8 +12,8 @@ ghost use Rattle.wire.specs.Wire.{field, part};
 ghost use Rattle.events.specs.Clear.{handles-at};
 ghost use Rattle.mailbox.specs.State.{ValidDevice, state-of};
 ghost use Rattle.wire.specs.Done.{Writes};
-ghost use Rattle.host.specs.Requests.{build};
-ghost use Rattle.host.specs.Requests as Q;
+ghost use Rattle.host_requests.specs.Requests.{build};
+ghost use Rattle.host_requests.specs.Requests as Q;
 ghost use Rattle.protocol.specs.HostFormats.{RequestRead};
 ghost use Rattle.protocol.specs.Contracts.{Serves};
 ghost use Rattle.host_records.specs.Lines.{line-room};

@@ -12,7 +12,7 @@ use Rattle.protocol.specs.Records.{whole, tells, front-size}
 use Rattle.protocol.specs.Formats.{probe-least, probe-fixed, probe-head, probe-within, probe-rest, probe-size, fixed, head, size}
 use Rattle.protocol.proofs.Laws.{printed}
 use Rattle.events.specs.Clear.{handles-at, clear-payload, handle-bytes}
-use Rattle.host.specs.Requests.{build, payload, countable}
+use Rattle.host_requests.specs.Requests.{build, payload, countable}
 use Rattle.host.specs.Counted.{header-size, count-place, record-size, record-reserved, reserved, first-reserved, counted, verdict}
 use Rattle.host.specs.Replies.{read-timestamp, list-fields, read-poison-list, poison-record, write-bytes}
 use Rattle.host.specs.Walk.{halves, walked, walk}

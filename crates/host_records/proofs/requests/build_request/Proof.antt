@@ -4,7 +4,7 @@ use Prim.Native.Nat.{ℕ, _≤_, _-_}
 use native.Mathlib.Omega.{arith}
 use borrow.Author.Needs.{needs}
 use lib.ListN.{length}
-use Rattle.host.specs.Requests.{set-event-interrupt-policy, set-timestamp, get-poison-list, inject-poison}
+use Rattle.host_requests.specs.Requests.{set-event-interrupt-policy, set-timestamp, get-poison-list, inject-poison}
 use Rattle.protocol.specs.HostFormats.{opcode-of, request-head}
 use Rattle.protocol.proofs.Laws.{rest-of, request-none}
 use Rattle.host_records.specs.HostRequests.{request-of}

@@ -6,7 +6,7 @@ use borrow.Author.Needs.{needs}
 use lib.ListN.{length, getD}
 use lib.ListN.{length-take}
 use Rattle.events.specs.Clear.{handles-at}
-use Rattle.host.specs.Requests.{clear-event-records}
+use Rattle.host_requests.specs.Requests.{clear-event-records}
 use Rattle.host_records.proofs.HostLaws.{built-as}
 use Rattle.host_records.proofs.requests.clear_event_records.Statement.{statement}
 use Rattle.host_records.proofs.requests.clear_event_records.Tie as tie

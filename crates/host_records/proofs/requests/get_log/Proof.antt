@@ -1,7 +1,7 @@
 use mathlib.Core.Path.{_∙_}
 use Prim.Native.Nat.{_-_}
 use borrow.Author.Needs.{needs}
-use Rattle.host.specs.Requests.{get-log}
+use Rattle.host_requests.specs.Requests.{get-log}
 use Rattle.host_records.proofs.HostLaws.{built-as, array-copied}
 use Rattle.host_records.proofs.requests.get_log.Statement.{statement}
 use Rattle.host_records.proofs.requests.get_log.Tie as tie

@@ -1,0 +1,8 @@
+-- The laws of the host's requests, each with its sentence in words; their statements and proofs are in other files, and are passed on from here. This is the one file
+-- of proofs/ that a crate above may cite (`tests/layers`). Assumes nothing.
+
+-- A request built from its fields passes the checks before its command's own, has the fields given, and its outcome on any device is the one meant; so has what the
+-- code built, where it answers 0.
+pub use Rattle.host_requests.proofs.Taking.{taken, built-taken}
+-- The request for a range of lines has 16 bytes, and it is built where there is room for them.
+pub use Rattle.host_requests.proofs.RequestLaws.{list-long, list-builds}

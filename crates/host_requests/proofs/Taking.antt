@@ -1,0 +1,249 @@
+-- A request built and then taken by the device is the one meant (document 02, W-202): its payload passes the checks before a command's own, the device's own
+-- definitions read the fields given out of it, and the outcome on any device is that of the request by its fields. Assumes nothing.
+use mathlib.Core.Path.{_≡_, refl, sym, ap, ap₂, _∙_}
+use mathlib.Core.Bool.{Bool, true, false, cond}
+use mathlib.Core.List.{List, [], _++_}
+use Prim.Native.Nat.{ℕ, _+_, _*_, _%_, _^_, _≤_, _<_}
+use native.Mathlib.Omega.{arith}
+use native.Mathlib.Decide.{ℕ-discrete}
+use lib.Dec.{eqb, leb, ltb}
+use lib.ListN.{length, take, drop, getD, length-append}
+use lib.Seq.{take-at}
+use borrow.Author.Tests.{le-leb, leb-true, eq-eqb, ne-eqb, eqb-true}
+use Rattle.wire.specs.Wire.{le, number, splice, same}
+use Rattle.wire.specs.Returns.{success, invalid-input, invalid-length, small-buffer, need}
+use Rattle.wire.proofs.Laws.{length-le, part-whole}
+use Rattle.wire.proofs.Splice.{field-front, field-past, number-read, part-front, part-past}
+use Rattle.events.specs.Log.{LogState, log-at}
+use Rattle.events.specs.Get as Get
+use Rattle.events.specs.Clear as Clear
+use Rattle.events.specs.Clear.{ClearedState, all-flag, count-field, handles-at, clear-payload, clear-code, clear-log-code, clear-size, clear-log, clear-taken}
+use Rattle.events.proofs.Laws.{payload-length, payload-log, payload-flags, payload-count, payload-handles}
+use Rattle.mailbox.specs.Numbers.{mailbox-size, event-records}
+use Rattle.mailbox.specs.State.{DeviceState, lines-of, with-logs, with-poison}
+use Rattle.mailbox.specs.Outcome.{Outcome, reads, replied, no-reply, changes, refused}
+use Rattle.mailbox.specs.Commands.{commands, admission}
+use Rattle.mailbox.specs.Clock as Clock
+use Rattle.mailbox.specs.EventCommands as Events
+use Rattle.mailbox.specs.EffectsLog as Logs
+use Rattle.mailbox.specs.PoisonCommands as Poison
+use Rattle.mailbox.specs.PoisonCommands.{ListChange}
+use Rattle.mailbox.specs.Clock.{device-time}
+use Rattle.poison.specs.Inject.{injects, after-inject}
+use Rattle.poison.specs.Clear.{after-clear}
+use Rattle.mailbox.specs.Mailbox.{run-command, outcome}
+use Rattle.mailbox.proofs.Laws.{admitted-runs, clear-events-admitted}
+use Rattle.wire.specs.declared.done.Done.{Done}
+use Rattle.wire.specs.Done.{Written, Writes, written}
+use Rattle.wire.specs.Done as Room
+use Rattle.host_requests.specs.Requests.{Request, opcode, payload, countable, build}
+use Rattle.host_requests.specs.Requests as Q
+use Rattle.host_requests.specs.Meant.{meant, FieldsRead, Widths, Taken, cleared, clearing, clearing-code}
+
+-- a request whose payload passes the checks and which the command takes as it is meant
+taking : (q : Request) → ((room : ℕ) → mailbox-size ≤ room → admission (opcode q) (length (payload q)) room ≡ 0) → FieldsRead q (payload q)
+    → ((d : DeviceState) (time : ℕ) → run-command d (opcode q) (payload q) time ≡ meant q d time) → Taken q
+taking q a f r =
+    record {
+      admitted = a;
+      fields = f;
+      outcome = λ d time room h. admitted-runs d (opcode q) (payload q) time room (a room h) ∙ r d time;
+    }
+
+-- ---- Get Event Records
+abbrev got : Bool → List ℕ → Get.GetOutcome
+got b x = cond (eqb (cond b success invalid-input) success) (record { code = success; reply = x }) (record { code = cond b success invalid-input; reply = [] })
+
+got-meant : (b : Bool) (x : List ℕ) (d : DeviceState) → reads d (record { code = got b x .code; bytes = got b x .reply }) ≡ reads d (need b (no-reply invalid-input) (replied x))
+got-meant true x d = refl
+got-meant false x d = refl
+
+get-taken : (log : ℕ) → log < 256 → Taken (Q.get-event-records log)
+unfolding opcode payload admission commands run-command Events.get-event-records Get.get-event-records Get.get-code meant le
+get-taken log small =
+    let e : log % 256 ≡ log = omega arith in
+    taking (Q.get-event-records log) (λ room h. rw (le-leb mailbox-size room h)) e (λ d time. rw e (got-meant (ltb log 5) (Get.reply-bytes event-records (log-at (d .logs) log)) d))
+
+-- ---- requests with no payload
+plain-policy : Taken Q.get-event-interrupt-policy
+unfolding opcode payload admission commands run-command meant
+plain-policy = taking Q.get-event-interrupt-policy (λ room h. rw (le-leb mailbox-size room h)) refl (λ d time. refl)
+
+plain-time : Taken Q.get-timestamp
+unfolding opcode payload admission commands run-command meant
+plain-time = taking Q.get-timestamp (λ room h. rw (le-leb mailbox-size room h)) refl (λ d time. refl)
+
+plain-logs : Taken Q.get-supported-logs
+unfolding opcode payload admission commands run-command meant
+plain-logs = taking Q.get-supported-logs (λ room h. rw (le-leb mailbox-size room h)) refl (λ d time. refl)
+
+plain-identify : Taken Q.identify
+unfolding opcode payload admission commands run-command meant
+plain-identify = taking Q.identify (λ room h. rw (le-leb mailbox-size room h)) refl (λ d time. refl)
+
+-- ---- one number
+set-time-taken : (value : ℕ) → value < 256 ^ 8 → Taken (Q.set-timestamp value)
+unfolding opcode payload admission commands run-command meant Clock.set-timestamp
+set-time-taken value small =
+    taking (Q.set-timestamp value) (λ room h. rw (length-le 8 value, le-leb mailbox-size room h)) (number-read 8 value small)
+    (λ d time. rw (number-read 8 value small))
+
+-- ---- settings
+settings-taken : (settings : List ℕ) → countable (Q.set-event-interrupt-policy settings) ≡ true → Taken (Q.set-event-interrupt-policy settings)
+unfolding opcode payload admission commands run-command meant countable
+settings-taken settings c =
+    taking (Q.set-event-interrupt-policy settings) (λ room h. go room h (ℕ-discrete (length settings) 4)) refl (λ d time. refl)
+  where
+    go : (room : ℕ) → mailbox-size ≤ room → Dec (length settings ≡ 4) → admission 0x0103 (length settings) room ≡ 0
+    go room h (yes e) = rw (e, le-leb mailbox-size room h)
+    go room h (no f) = let e : length settings ≡ 5 = eqb-true _ _ (rw (ne-eqb (length settings) 4 f) at c) in rw (e, le-leb mailbox-size room h)
+
+-- ---- Get Log
+log-fields : (id : List ℕ) (offset size : ℕ) → length id ≡ 16 → offset < 256 ^ 4 → size < 256 ^ 4 → FieldsRead (Q.get-log id offset size) (payload (Q.get-log id offset size))
+unfolding payload
+log-fields id offset size e ho hs = (
+  part-front 0 16 (id ++ le 4 offset) (le 4 size) (simp (length-append, length-le) (omega arith)) ∙ part-front 0 16 id (le 4 offset) (omega arith) ∙ part-whole 16 id e,
+  field-front 16 4 (id ++ le 4 offset) (le 4 size) (simp (length-append, length-le) (omega arith)) ∙ field-past 0 4 16 id (le 4 offset) (omega arith) ∙ number-read 4 offset ho,
+  field-past 0 4 20 (id ++ le 4 offset) (le 4 size) (simp (length-append, length-le) (omega arith)) ∙ number-read 4 size hs,
+)
+
+log-taken : (id : List ℕ) (offset size : ℕ) → length id ≡ 16 → offset < 256 ^ 4 → size < 256 ^ 4 → Taken (Q.get-log id offset size)
+unfolding opcode payload admission commands run-command meant Logs.get-log
+log-taken id offset size e ho hs =
+    let f = log-fields id offset size e ho hs in
+    let l : length (id ++ le 4 offset ++ le 4 size) ≡ 24 = simp (length-append, length-le) (omega arith) in
+    taking (Q.get-log id offset size) (λ room h. rw (l, le-leb mailbox-size room h)) f (λ d time. rw (f .0, f .1, f .2))
+
+-- ---- the poison commands
+list-fields : (address lines : ℕ) → address < 256 ^ 8 → lines < 256 ^ 8 → FieldsRead (Q.get-poison-list address lines) (payload (Q.get-poison-list address lines))
+unfolding payload
+list-fields address lines ha hl =
+    (field-front 0 8 (le 8 address) (le 8 lines) (simp length-le (omega arith)) ∙ number-read 8 address ha, field-past 0 8 8 (le 8 address) (le 8 lines) (simp length-le) ∙ number-read 8 lines hl)
+
+list-taken : (address lines : ℕ) → address < 256 ^ 8 → lines < 256 ^ 8 → Taken (Q.get-poison-list address lines)
+unfolding opcode payload admission commands run-command meant Poison.get-poison-list
+list-taken address lines ha hl =
+    let f = list-fields address lines ha hl in
+    let l : length (le 8 address ++ le 8 lines) ≡ 16 = simp (length-append, length-le) in
+    taking (Q.get-poison-list address lines) (λ room h. rw (l, le-leb mailbox-size room h)) f (λ d time. rw (f .0, f .1))
+
+-- a change of the list, in the device: the tests of the definition and of what is meant are the same
+abbrev change : DeviceState → ListChange → Outcome
+change d c = changes (c .code) (with-poison d (c .list))
+
+inject-meant : (d : DeviceState) (c k : ℕ) (y z : Bool) → z ≡ eqb c 0
+    → change d (need z (record { code = c; list = d .poison }) (need y (record { code = 16; list = d .poison }) (record { code = 0; list = after-inject (d .poison) k })))
+    ≡ need z (refused c d) (need y (refused 16 d) (changes 0 (with-poison d (after-inject (d .poison) k))))
+inject-meant d c k true true e = refl
+inject-meant d c k false true e = refl
+inject-meant d c k true false e = refl
+inject-meant d c k false false e = refl
+
+inject-taken : (address : ℕ) → address < 256 ^ 8 → Taken (Q.inject-poison address)
+unfolding opcode payload admission commands run-command meant Poison.inject-poison
+inject-taken address ha =
+    let f = number-read 8 address ha in
+    taking (Q.inject-poison address) (λ room h. rw (length-le 8 address, le-leb mailbox-size room h)) f
+    (λ d time. rw f (inject-meant d (Poison.line-code (lines-of d) address) (Poison.line-of address) (injects (d .poison) (Poison.line-of address)) _ refl))
+
+clear-meant : (d : DeviceState) (c k t : ℕ) (z : Bool) → z ≡ eqb c 0
+    → change d (need z (record { code = c; list = d .poison }) (record { code = 0; list = after-clear (d .poison) k t }))
+    ≡ need z (refused c d) (changes 0 (with-poison d (after-clear (d .poison) k t)))
+clear-meant d c k t true e = refl
+clear-meant d c k t false e = refl
+
+clear-fields : (address : ℕ) (bs : List ℕ) → address < 256 ^ 8 → length bs ≡ 64 → FieldsRead (Q.clear-poison address bs) (payload (Q.clear-poison address bs))
+unfolding payload
+clear-fields address bs ha e =
+    (field-front 0 8 (le 8 address) bs (simp length-le (omega arith)) ∙ number-read 8 address ha, part-past 0 64 8 (le 8 address) bs (simp length-le) ∙ part-whole 64 bs e)
+
+poison-taken : (address : ℕ) (bs : List ℕ) → address < 256 ^ 8 → length bs ≡ 64 → Taken (Q.clear-poison address bs)
+unfolding opcode payload admission commands run-command meant Poison.clear-poison
+poison-taken address bs ha e =
+    let f = clear-fields address bs ha e in
+    let l : length (le 8 address ++ bs) ≡ 72 = simp (length-append, length-le) (omega arith) in
+    taking (Q.clear-poison address bs) (λ room h. rw (l, le-leb mailbox-size room h)) f
+    (λ d time. rw (f .0) (clear-meant d (Poison.line-code (lines-of d) address) (Poison.line-of address) (device-time (d .clock) time) _ refl))
+
+-- ---- Clear Event Records
+module _ (log flags : ℕ) (hs : List ℕ) (hl : log < 256) (hf : flags < 256) (small : (i : ℕ) → i < length hs → getD hs i 0 < 65536) (few : length hs ≤ 255) where
+  abbrev built : List ℕ
+  built = clear-payload log flags hs
+
+  counted : count-field built ≡ length hs
+  counted = payload-count log flags hs (omega arith)
+
+  handled : handles-at (count-field built) 6 built ≡ hs
+  handled = ap (λ (n : ℕ). handles-at n 6 built) counted ∙ payload-handles log flags hs small
+
+  -- the clear of one log, by the payload and by its fields
+  code-meant : (s : LogState) → clear-log-code s built ≡ clearing-code s (all-flag flags) hs
+  unfolding clear-log-code
+  code-meant s = rw (payload-flags log flags hs hf, handled, counted)
+
+  log-meant : (s : LogState) → clear-log s built ≡ clearing s (all-flag flags) hs
+  unfolding clear-log clear-size
+  log-meant s = rw (code-meant s, payload-flags log flags hs hf, counted)
+
+  -- the checks before it leave the one of the log's number
+  checks-meant : clear-code built ≡ need (ltb log 5) invalid-input success
+  unfolding clear-code
+  checks-meant =
+      let e : length built ≡ 6 + 2 * count-field built = payload-length log flags hs ∙ ap (λ (n : ℕ). 6 + 2 * n) (sym counted) in
+      rw (eq-eqb (length built) (6 + 2 * count-field built) e, payload-log log flags hs hl)
+
+  by-number : (d : DeviceState) (b : Bool) (c : ClearedState)
+      → changes (cond (eqb (need b invalid-input success) success) (clear-taken (d .logs) log c) (record { code = need b invalid-input success; logs = d .logs }) .code)
+      (with-logs d (cond (eqb (need b invalid-input success) success) (clear-taken (d .logs) log c) (record { code = need b invalid-input success; logs = d .logs }) .logs))
+      ≡ need b (refused invalid-input d) (cleared d log c)
+  by-number d true c = refl
+  by-number d false c = refl
+
+  events-meant : (d : DeviceState) (time : ℕ) → run-command d 0x0101 built time ≡ meant (Q.clear-event-records log flags hs) d time
+  unfolding run-command meant Events.clear-event-records Clear.clear-event-records
+  events-meant d time = rw (checks-meant, payload-log log flags hs hl, log-meant (log-at (d .logs) log)) (by-number d (ltb log 5) (clearing (log-at (d .logs) log) (all-flag flags) hs))
+
+  events-taken : Taken (Q.clear-event-records log flags hs)
+  unfolding opcode payload
+  events-taken =
+      let L = payload-length log flags hs in
+      taking (Q.clear-event-records log flags hs) (λ room h. clear-events-admitted (length built) room h (omega (arith, L)) (omega (arith, L)))
+      (payload-log log flags hs hl, payload-flags log flags hs hf, counted, payload-handles log flags hs small) events-meant
+
+-- ---- the theorem
+pub taken : (q : Request) → countable q ≡ true → Widths q → Taken q
+unfolding countable
+taken (Q.get-event-records log) c w = get-taken log w
+taken (Q.clear-event-records log flags handles) c w = events-taken log flags handles (w .0) (w .1) (w .2) (leb-true _ _ c)
+taken Q.get-event-interrupt-policy c w = plain-policy
+taken (Q.set-event-interrupt-policy settings) c w = settings-taken settings c
+taken Q.get-timestamp c w = plain-time
+taken (Q.set-timestamp value) c w = set-time-taken value w
+taken Q.get-supported-logs c w = plain-logs
+taken (Q.get-log identifier offset size) c w = log-taken identifier offset size (eqb-true _ _ c) (w .0) (w .1)
+taken Q.identify c w = plain-identify
+taken (Q.get-poison-list address lines) c w = list-taken address lines (w .0) (w .1)
+taken (Q.inject-poison address) c w = inject-taken address w
+taken (Q.clear-poison address bytes) c w = poison-taken address bytes w (eqb-true _ _ c)
+
+-- ---- the same of what the code built: where it answers 0, the bytes that it wrote at the front of the room are the payload of a request that the device takes as meant
+build-zero : (q : Request) (room : ℕ) → build q room .code ≡ 0 → (build q room ≡ written (payload q)) × (countable q ≡ true)
+unfolding build
+build-zero q room z = go (leb (length (payload q)) room) (countable q) refl z
+  where
+    go : (b c : Bool) → countable q ≡ c → need b (Room.refused small-buffer) (need c (Room.refused invalid-length) (written (payload q))) .code ≡ 0
+        → (need b (Room.refused small-buffer) (need c (Room.refused invalid-length) (written (payload q))) ≡ written (payload q)) × (countable q ≡ true)
+    go true true e z = (refl, e)
+    go true false e z = absurd (omega arith)
+    go false c e z = absurd (omega arith)
+
+pub built-taken : (q : Request) → Widths q → {r : Done} {before after : List ℕ} → Writes (build q (length before)) r before after → r .code ≡ 0
+    → (take (r .length) after ≡ payload q) × Taken q
+unfolding splice
+built-taken q w {r} {before} {after} b z =
+    let t = build-zero q (length before) (sym (b .code) ∙ z) in
+    let bytes = ap (λ (x : Written). x .bytes) (t .0) in
+    let all : after ≡ payload q ++ drop (0 + length (payload q)) before = b .bytes ∙ ap (λ (l : List ℕ). splice 0 l before) bytes in (
+      ap₂ (λ (n : ℕ) (l : List ℕ). take n l) (b .size ∙ ap length bytes) all ∙ take-at (payload q) (drop (0 + length (payload q)) before) (length (payload q)) refl,
+      taken q (t .1) w,
+    )
