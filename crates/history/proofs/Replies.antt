@@ -21,8 +21,8 @@ use Rattle.mailbox.specs.DeviceCalls.{make}
 use Rattle.mailbox.specs.Contracts.{Answered}
 use Rattle.mailbox.specs.declared.device.Device.{Device}
 use Rattle.mailbox.specs.declared.device.Answer.{Answer}
-use Rattle.host.specs.DeviceReplies.{reading-code, PlainLog, Plain}
-use Rattle.host.proofs.Laws.{accepted, recordable}
+use Rattle.host_replies.specs.DeviceReplies.{reading-code, PlainLog, Plain}
+use Rattle.host_replies.proofs.Laws.{accepted, recordable}
 use Rattle.history.specs.Calls.{Call}
 use Rattle.history.specs.Drain.{reached}
 use Rattle.history.specs.Ran.{Ran, reply-in}

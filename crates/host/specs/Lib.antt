@@ -1,7 +1,3 @@
--- The definitions that the contracts of crate `host` cite, by subject: replies, the walk.
-pub mod Counted
-pub mod Replies
-pub mod Fields
-pub mod DeviceReplies
+-- The definitions that the contracts of crate `host` cite, by subject: the walk over entries, and as a call on a device.
 pub mod Walk
 pub mod Walking

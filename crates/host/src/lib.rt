@@ -1,6 +1,3 @@
-// The host's side of the mailbox (document 02, W-202), for tools in a guest: each reply read from bytes (`reply`) and written again (`writing`), and the whole poison list
-// walked (`walk`) by the requests of crate `host_requests`. A refusal gives its number and leaves the lent room as it was.
-pub mod counted;
-pub mod reply;
+// The host's side of the mailbox (document 02, W-202), for tools in a guest: the whole poison list walked (`walk`), by the library's own requests. Requests are crate
+// `host_requests`, replies crate `host_replies`. A refusal gives its number and leaves the lent room as it was.
 pub mod walk;
-pub mod writing;

@@ -14,12 +14,12 @@ use Rattle.wire.specs.Wire.{field, part}
 use Rattle.wire.proofs.Laws.{length-part}
 use Rattle.mailbox.specs.declared.device.Device.{Device}
 use Rattle.mailbox.specs.State.{ValidDevice, state-of}
-use Rattle.host.specs.declared.counted.Kind.{Kind}
-use Rattle.host.specs.declared.reply.SupportedLog.{SupportedLog}
-use Rattle.host.specs.declared.reply.PoisonRecord.{PoisonRecord}
-use Rattle.host.specs.declared.counted.Kind.the-variants.{EventRecords, SupportedLogs, PoisonList}
-use Rattle.host.specs.Counted.{verdict}
-use Rattle.host.specs.Replies.{event-record, supported-log, poison-record, read-event-records, event-fields, read-supported-logs, read-poison-list, list-fields, read-nothing}
+use Rattle.host_replies.specs.declared.counted.Kind.{Kind}
+use Rattle.host_replies.specs.declared.reply.SupportedLog.{SupportedLog}
+use Rattle.host_replies.specs.declared.reply.PoisonRecord.{PoisonRecord}
+use Rattle.host_replies.specs.declared.counted.Kind.the-variants.{EventRecords, SupportedLogs, PoisonList}
+use Rattle.host_replies.specs.Counted.{verdict}
+use Rattle.host_replies.specs.Replies.{event-record, supported-log, poison-record, read-event-records, event-fields, read-supported-logs, read-poison-list, list-fields, read-nothing}
 use Rattle.protocol.specs.Text.{hex, column, columns, line-end, numbers-line}
 use Rattle.protocol.specs.Records.{RP}
 use Rattle.protocol.specs.Contracts.{Puts, PutsLine, Serves}

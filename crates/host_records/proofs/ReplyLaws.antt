@@ -9,16 +9,16 @@ use lib.ListN.{length, drop, getD, replicate}
 use borrow.Author.Tests.{eq-eqb, ne-eqb, eqb-true, leb-true}
 use Rattle.wire.specs.Wire.{field, splice}
 use Rattle.wire.proofs.Laws.{and-parts}
-use Rattle.host.specs.declared.counted.Kind.{Kind}
-use Rattle.host.specs.declared.counted.Kind.the-variants.{EventRecords, SupportedLogs, PoisonList}
-use Rattle.host.specs.declared.counted.Rewritten.{Rewritten}
-use Rattle.host.specs.declared.reply.EventsRead.{EventsRead}
-use Rattle.host.specs.declared.reply.LogsRead.{LogsRead}
-use Rattle.host.specs.declared.reply.ListRead.{ListRead}
+use Rattle.host_replies.specs.declared.counted.Kind.{Kind}
+use Rattle.host_replies.specs.declared.counted.Kind.the-variants.{EventRecords, SupportedLogs, PoisonList}
+use Rattle.host_replies.specs.declared.counted.Rewritten.{Rewritten}
+use Rattle.host_replies.specs.declared.reply.EventsRead.{EventsRead}
+use Rattle.host_replies.specs.declared.reply.LogsRead.{LogsRead}
+use Rattle.host_replies.specs.declared.reply.ListRead.{ListRead}
 use Rattle.wire.specs.declared.done.Done.{Done}
 use Rattle.wire.specs.Done.{Written, refused, Writes}
-use Rattle.host.specs.Counted.{header-size, record-size, count-place, first-reserved, counted, verdict, verdict-of, Rewrites}
-use Rattle.host.specs.Replies.{event-fields, no-events, read-event-records, read-supported-logs, list-fields, no-list, read-poison-list, read-nothing, write-bytes}
+use Rattle.host_replies.specs.Counted.{header-size, record-size, count-place, first-reserved, counted, verdict, verdict-of, Rewrites}
+use Rattle.host_replies.specs.Replies.{event-fields, no-events, read-event-records, read-supported-logs, list-fields, no-list, read-poison-list, read-nothing, write-bytes}
 use Rattle.host_records.specs.HostRewrites.{read-then, counted-again, written-again, again-call}
 use Rattle.host_records.proofs.HostLaws.{writes-as}
 

@@ -8,16 +8,16 @@ use lib.ListN.{drop}
 use Rattle.wire.specs.Wire.{field}
 use Rattle.wire.specs.Returns.{success, invalid-input, need}
 use Rattle.mailbox.specs.State.{DeviceState}
-use Rattle.host.specs.declared.counted.Kind.{Kind}
-use Rattle.host.specs.declared.counted.Kind.the-variants.{EventRecords, SupportedLogs, PoisonList}
-use Rattle.host.specs.declared.reply.EventsRead.{EventsRead}
-use Rattle.host.specs.declared.reply.PolicyRead.{PolicyRead}
-use Rattle.host.specs.declared.reply.TimeRead.{TimeRead}
-use Rattle.host.specs.declared.reply.LogsRead.{LogsRead}
-use Rattle.host.specs.declared.reply.IdentityFields.{IdentityFields}
-use Rattle.host.specs.declared.reply.IdentityRead.{IdentityRead}
-use Rattle.host.specs.declared.reply.ListRead.{ListRead}
-use Rattle.host.specs.Replies.{read-event-records, read-policy, read-timestamp, read-supported-logs, read-log, read-identity, read-poison-list, read-nothing, event-record, supported-log, poison-record}
+use Rattle.host_replies.specs.declared.counted.Kind.{Kind}
+use Rattle.host_replies.specs.declared.counted.Kind.the-variants.{EventRecords, SupportedLogs, PoisonList}
+use Rattle.host_replies.specs.declared.reply.EventsRead.{EventsRead}
+use Rattle.host_replies.specs.declared.reply.PolicyRead.{PolicyRead}
+use Rattle.host_replies.specs.declared.reply.TimeRead.{TimeRead}
+use Rattle.host_replies.specs.declared.reply.LogsRead.{LogsRead}
+use Rattle.host_replies.specs.declared.reply.IdentityFields.{IdentityFields}
+use Rattle.host_replies.specs.declared.reply.IdentityRead.{IdentityRead}
+use Rattle.host_replies.specs.declared.reply.ListRead.{ListRead}
+use Rattle.host_replies.specs.Replies.{read-event-records, read-policy, read-timestamp, read-supported-logs, read-log, read-identity, read-poison-list, read-nothing, event-record, supported-log, poison-record}
 use Rattle.protocol.specs.Text.{hex, column, columns, bytes-column, line-end, numbers-line}
 use Rattle.protocol.specs.Records.{RP}
 use Rattle.protocol.specs.HostFormats.{opcode-of}

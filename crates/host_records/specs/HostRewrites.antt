@@ -8,17 +8,17 @@ use lib.ListN.{drop, getD}
 use Rattle.wire.specs.Wire.{field, le}
 use Rattle.wire.specs.Returns.{success, need}
 use Rattle.mailbox.specs.State.{DeviceState}
-use Rattle.host.specs.declared.counted.Kind.{Kind}
-use Rattle.host.specs.declared.counted.Kind.the-variants.{EventRecords, SupportedLogs, PoisonList}
-use Rattle.host.specs.declared.reply.EventsRead.{EventsRead}
-use Rattle.host.specs.declared.reply.PolicyRead.{PolicyRead}
-use Rattle.host.specs.declared.reply.TimeRead.{TimeRead}
-use Rattle.host.specs.declared.reply.LogsRead.{LogsRead}
-use Rattle.host.specs.declared.reply.IdentityRead.{IdentityRead}
-use Rattle.host.specs.declared.reply.ListRead.{ListRead}
+use Rattle.host_replies.specs.declared.counted.Kind.{Kind}
+use Rattle.host_replies.specs.declared.counted.Kind.the-variants.{EventRecords, SupportedLogs, PoisonList}
+use Rattle.host_replies.specs.declared.reply.EventsRead.{EventsRead}
+use Rattle.host_replies.specs.declared.reply.PolicyRead.{PolicyRead}
+use Rattle.host_replies.specs.declared.reply.TimeRead.{TimeRead}
+use Rattle.host_replies.specs.declared.reply.LogsRead.{LogsRead}
+use Rattle.host_replies.specs.declared.reply.IdentityRead.{IdentityRead}
+use Rattle.host_replies.specs.declared.reply.ListRead.{ListRead}
 use Rattle.wire.specs.Done.{Written, refused}
-use Rattle.host.specs.Counted.{writing-verdict, rewritten}
-use Rattle.host.specs.Replies.{read-event-records, event-header, read-policy, read-timestamp, read-supported-logs, logs-header, read-log, read-identity, write-identity, read-poison-list, list-header, read-nothing, write-bytes}
+use Rattle.host_replies.specs.Counted.{writing-verdict, rewritten}
+use Rattle.host_replies.specs.Replies.{read-event-records, event-header, read-policy, read-timestamp, read-supported-logs, logs-header, read-log, read-identity, write-identity, read-poison-list, list-header, read-nothing, write-bytes}
 use Rattle.protocol.specs.Records.{RW}
 use Rattle.protocol.specs.HostFormats.{opcode-of}
 use Rattle.protocol.specs.Runs.{Printed}

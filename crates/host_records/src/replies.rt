@@ -1,9 +1,9 @@
 // The record RP: a reply read by the host library (document 10, "Records that a request brings", "Fields of a reply", W-202), and its line. A reading that is refused
 // prints its number, and for 0002h the place.
 use crate::buffer;
-use host::counted::Kind;
-use host::reply;
-use host::reply::IdentityFields;
+use host_replies::counted::Kind;
+use host_replies::reply;
+use host_replies::reply::IdentityFields;
 use mailbox::device::Device;
 use protocol::calls::Served;
 use protocol::output;
@@ -13,8 +13,8 @@ ghost use Prim.Native.Nat.{_+_, _*_, _≤_, _<_};
 ghost use lib.ListN.{length, drop};
 ghost use Rattle.wire.specs.Wire.{field};
 ghost use Rattle.mailbox.specs.State.{ValidDevice, state-of};
-ghost use Rattle.host.specs.declared.counted.Kind.the-variants.{EventRecords, SupportedLogs, PoisonList};
-ghost use Rattle.host.specs.Replies.{read-event-records, read-policy, read-timestamp, read-supported-logs, read-log, read-identity, read-poison-list, read-nothing};
+ghost use Rattle.host_replies.specs.declared.counted.Kind.the-variants.{EventRecords, SupportedLogs, PoisonList};
+ghost use Rattle.host_replies.specs.Replies.{read-event-records, read-policy, read-timestamp, read-supported-logs, read-log, read-identity, read-poison-list, read-nothing};
 ghost use Rattle.protocol.specs.Text.{columns};
 ghost use Rattle.protocol.specs.Contracts.{Puts, PutsLine, Serves};
 ghost use Rattle.host_records.specs.Lines.{line-room};

@@ -1,8 +1,8 @@
 // The record RW: a reply read by the host library and written again (document 10, "Records that a request brings", W-202), and its line. A reading that is refused
 // gives its number and leaves the room as it was.
 use crate::buffer;
-use host::reply;
-use host::writing;
+use host_replies::reply;
+use host_replies::writing;
 use mailbox::device::Device;
 use protocol::calls::Served;
 use wire::done::Done;
@@ -13,7 +13,7 @@ ghost use lib.ListN.{length, getD, drop, replicate};
 ghost use Rattle.wire.specs.Wire.{field};
 ghost use Rattle.mailbox.specs.State.{ValidDevice, state-of};
 ghost use Rattle.wire.specs.Done.{Writes};
-ghost use Rattle.host.specs.Replies.{read-event-records, read-policy, read-timestamp, read-supported-logs, read-log, read-identity, read-poison-list, read-nothing, write-bytes};
+ghost use Rattle.host_replies.specs.Replies.{read-event-records, read-policy, read-timestamp, read-supported-logs, read-log, read-identity, read-poison-list, read-nothing, write-bytes};
 ghost use Rattle.protocol.specs.HostFormats.{opcode-of};
 ghost use Rattle.protocol.specs.Contracts.{Serves};
 ghost use Rattle.host_records.specs.Lines.{line-room};

@@ -13,8 +13,8 @@ use Rattle.protocol.specs.Formats.{probe-least, probe-fixed, probe-head, probe-
 use Rattle.protocol.proofs.Laws.{printed}
 use Rattle.events.specs.Clear.{handles-at, clear-payload, handle-bytes}
 use Rattle.host_requests.specs.Requests.{build, payload, countable}
-use Rattle.host.specs.Counted.{header-size, count-place, record-size, record-reserved, reserved, first-reserved, counted, verdict}
-use Rattle.host.specs.Replies.{read-timestamp, list-fields, read-poison-list, poison-record, write-bytes}
+use Rattle.host_replies.specs.Counted.{header-size, count-place, record-size, record-reserved, reserved, first-reserved, counted, verdict}
+use Rattle.host_replies.specs.Replies.{read-timestamp, list-fields, read-poison-list, poison-record, write-bytes}
 use Rattle.host.specs.Walk.{halves, walked, walk}
 use Rattle.host.specs.Walking.{walk-on}
 use Rattle.protocol.specs.HostFormats.{request-head, request-within, request-rest}

@@ -6,7 +6,7 @@ use native.Mathlib.Omega.{arith}
 use borrow.Author.Needs.{needs}
 use lib.ListN.{length, take}
 use lib.Seq.{take-all}
-use Rattle.host.specs.Replies.{read-identity}
+use Rattle.host_replies.specs.Replies.{read-identity}
 use Rattle.protocol.specs.Text.{hex, columns}
 use Rattle.protocol.proofs.Laws.{puts-then, puts-as, length-columns, length-hex}
 use Rattle.host_records.specs.HostReplies.{identity-numbers, identity-line}

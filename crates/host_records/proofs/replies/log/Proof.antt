@@ -6,7 +6,7 @@ use native.Mathlib.Omega.{arith}
 use borrow.Author.Needs.{needs}
 use lib.ListN.{length, take}
 use lib.Seq.{take-all}
-use Rattle.host.specs.Replies.{read-log}
+use Rattle.host_replies.specs.Replies.{read-log}
 use Rattle.protocol.specs.Text.{bytes-column}
 use Rattle.protocol.proofs.Laws.{puts-as, length-columns, length-bytes-column}
 use Rattle.host_records.specs.Lines.{minus}

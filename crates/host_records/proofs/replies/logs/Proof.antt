@@ -6,9 +6,9 @@ use native.Mathlib.Omega.{arith}
 use borrow.Author.Needs.{needs}
 use lib.ListN.{length, drop}
 use Rattle.wire.specs.Wire.{field}
-use Rattle.host.specs.declared.counted.Kind.the-variants.{SupportedLogs}
-use Rattle.host.specs.Counted.{header-size, record-size, count-place}
-use Rattle.host.specs.Replies.{read-supported-logs}
+use Rattle.host_replies.specs.declared.counted.Kind.the-variants.{SupportedLogs}
+use Rattle.host_replies.specs.Counted.{header-size, record-size, count-place}
+use Rattle.host_replies.specs.Replies.{read-supported-logs}
 use Rattle.protocol.proofs.Laws.{puts-as, length-columns, rest-of}
 use Rattle.host_records.specs.HostReplies.{each-of, record-columns, record-room, logs-line}
 use Rattle.host_records.proofs.ReplyLaws.{accepted, logs-code}

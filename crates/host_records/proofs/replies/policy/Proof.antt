@@ -4,7 +4,7 @@ use mathlib.Core.List.{List, _∷_}
 use Prim.Native.Nat.{ℕ, _-_}
 use borrow.Author.Needs.{needs}
 use lib.ListN.{length}
-use Rattle.host.specs.Replies.{read-policy}
+use Rattle.host_replies.specs.Replies.{read-policy}
 use Rattle.protocol.specs.Records.{RP}
 use Rattle.protocol.specs.Text.{numbers-line}
 use Rattle.protocol.proofs.Laws.{puts-line-as}

@@ -4,7 +4,7 @@ use Prim.Native.Nat.{_-_}
 use native.Mathlib.Omega.{arith}
 use borrow.Author.Needs.{needs}
 use lib.ListN.{length}
-use Rattle.host.specs.Replies.{event-record}
+use Rattle.host_replies.specs.Replies.{event-record}
 use Rattle.host_records.proofs.ReadLaws.{event-short, put-event}
 use Rattle.host_records.proofs.replies.put_event.Statement.{statement}
 use Rattle.host_records.proofs.replies.put_event.Tie as tie

@@ -3,7 +3,7 @@ use mathlib.Core.Path.{_≡_, ap}
 use Prim.Native.Nat.{_-_}
 use native.Mathlib.Omega.{arith}
 use borrow.Author.Needs.{needs}
-use Rattle.host.specs.declared.counted.Kind.the-variants.{EventRecords, SupportedLogs, PoisonList}
+use Rattle.host_replies.specs.declared.counted.Kind.the-variants.{EventRecords, SupportedLogs, PoisonList}
 use Rattle.host_records.specs.HostReplies.{record-room}
 use Rattle.host_records.proofs.ReadLaws.{put-event, put-log, put-poison, by-kind}
 use Rattle.host_records.proofs.replies.put_record.Statement.{statement}

@@ -1,7 +1,7 @@
 -- `host_records::replies::timestamp` meets its contract. Assumes nothing.
 use Prim.Native.Nat.{_-_}
 use borrow.Author.Needs.{needs}
-use Rattle.host.specs.Replies.{read-timestamp}
+use Rattle.host_replies.specs.Replies.{read-timestamp}
 use Rattle.host_records.specs.HostReplies.{time-line}
 use Rattle.host_records.proofs.ReadLaws.{line-refused, line-given}
 use Rattle.host_records.proofs.replies.timestamp.Statement.{statement}

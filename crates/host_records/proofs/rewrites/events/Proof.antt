@@ -4,9 +4,9 @@ use Prim.Native.Nat.{_≤_}
 use native.Mathlib.Omega.{arith}
 use borrow.Author.Needs.{needs}
 use lib.ListN.{length, drop}
-use Rattle.host.specs.declared.counted.Kind.the-variants.{EventRecords}
-use Rattle.host.specs.Counted.{header-size}
-use Rattle.host.specs.Replies.{read-event-records, event-header}
+use Rattle.host_replies.specs.declared.counted.Kind.the-variants.{EventRecords}
+use Rattle.host_replies.specs.Counted.{header-size}
+use Rattle.host_replies.specs.Replies.{read-event-records, event-header}
 use Rattle.protocol.proofs.Laws.{rest-of}
 use Rattle.host_records.specs.HostRewrites.{write-events}
 use Rattle.host_records.proofs.ReplyLaws.{again-refused, again-given, counted-writes, accepted, events-code}

@@ -4,9 +4,9 @@ use Prim.Native.Nat.{_≤_}
 use native.Mathlib.Omega.{arith}
 use borrow.Author.Needs.{needs}
 use lib.ListN.{length, drop}
-use Rattle.host.specs.declared.counted.Kind.the-variants.{PoisonList}
-use Rattle.host.specs.Counted.{header-size}
-use Rattle.host.specs.Replies.{read-poison-list, list-header}
+use Rattle.host_replies.specs.declared.counted.Kind.the-variants.{PoisonList}
+use Rattle.host_replies.specs.Counted.{header-size}
+use Rattle.host_replies.specs.Replies.{read-poison-list, list-header}
 use Rattle.protocol.proofs.Laws.{rest-of}
 use Rattle.host_records.specs.HostRewrites.{write-list}
 use Rattle.host_records.proofs.ReplyLaws.{again-refused, again-given, counted-writes, accepted, list-code}

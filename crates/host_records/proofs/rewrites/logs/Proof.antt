@@ -4,9 +4,9 @@ use Prim.Native.Nat.{_≤_}
 use native.Mathlib.Omega.{arith}
 use borrow.Author.Needs.{needs}
 use lib.ListN.{length, drop}
-use Rattle.host.specs.declared.counted.Kind.the-variants.{SupportedLogs}
-use Rattle.host.specs.Counted.{header-size}
-use Rattle.host.specs.Replies.{read-supported-logs, logs-header}
+use Rattle.host_replies.specs.declared.counted.Kind.the-variants.{SupportedLogs}
+use Rattle.host_replies.specs.Counted.{header-size}
+use Rattle.host_replies.specs.Replies.{read-supported-logs, logs-header}
 use Rattle.protocol.proofs.Laws.{rest-of}
 use Rattle.host_records.specs.HostRewrites.{write-logs}
 use Rattle.host_records.proofs.ReplyLaws.{again-refused, again-given, counted-writes, accepted, logs-code}

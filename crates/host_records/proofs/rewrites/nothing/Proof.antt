@@ -2,7 +2,7 @@
 use mathlib.Core.List.{[]}
 use borrow.Author.Needs.{needs}
 use lib.ListN.{length}
-use Rattle.host.specs.Replies.{read-nothing, write-bytes}
+use Rattle.host_replies.specs.Replies.{read-nothing, write-bytes}
 use Rattle.host_records.proofs.ReplyLaws.{again-refused, again-given}
 use Rattle.host_records.proofs.rewrites.nothing.Statement.{statement}
 use Rattle.host_records.proofs.rewrites.nothing.Tie as tie

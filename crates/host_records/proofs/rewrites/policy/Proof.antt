@@ -1,7 +1,7 @@
 -- `host_records::rewrites::policy` meets its contract: a refusal leaves the room, and what was read is written. Assumes nothing.
 use borrow.Author.Needs.{needs}
 use lib.ListN.{length}
-use Rattle.host.specs.Replies.{read-policy}
+use Rattle.host_replies.specs.Replies.{read-policy}
 use Rattle.host_records.specs.HostRewrites.{write-policy}
 use Rattle.host_records.proofs.ReplyLaws.{again-refused, again-given}
 use Rattle.host_records.proofs.rewrites.policy.Statement.{statement}

@@ -1,0 +1,203 @@
+-- Whatever command the device answers with Success, the host's reading of the reply accepts it, and gives what the device's definitions say (document 02, W-202).
+-- Over any device whose numbers have their widths (`Plain`), any opcode, payload, time and room. Assumes nothing.
+use mathlib.Core.Path.{_≡_, refl, sym, ap, _∙_}
+use mathlib.Core.Bool.{Bool, true, false, cond}
+use mathlib.Core.List.{List, [], _++_}
+use Prim.Native.Nat.{ℕ, _+_, _^_, _<_}
+use native.Mathlib.Omega.{arith}
+use lib.Dec.{eqb, leb}
+use lib.ListN.{length, getD}
+use borrow.Author.Tests.{leb-true, eqb-false}
+use Rattle.wire.specs.Wire.{le, number, part, field, same}
+use Rattle.wire.specs.Returns.{need}
+use Rattle.wire.proofs.Laws.{length-le, length-part, either}
+use Rattle.poison.specs.State.{PoisonState}
+use Rattle.events.specs.Log.{log-at}
+use Rattle.events.proofs.Laws.{read-log as log-read}
+use Rattle.mailbox.specs.Numbers.{mailbox-size, event-records}
+use Rattle.mailbox.specs.State.{DeviceState, lines-of}
+use Rattle.mailbox.specs.Outcome.{Outcome, changes, no-reply, replied as replied-bytes}
+use Rattle.mailbox.specs.Commands.{commands}
+use Rattle.mailbox.specs.Clock.{device-time, get-timestamp}
+use Rattle.mailbox.specs.Policy.{get-policy}
+use Rattle.mailbox.specs.EffectsLog.{effects-log, effects-log-id, effects-log-size, log-offset, log-length, get-supported-logs, get-log}
+use Rattle.mailbox.specs.Identity.{version, limits, identify}
+use Rattle.mailbox.specs.EventCommands.{get-event-records, clear-event-records}
+use Rattle.mailbox.specs.PoisonCommands.{line-of, range-code, list-reply, get-poison-list}
+use Rattle.mailbox.specs.Mailbox.{run-command, outcome}
+use Rattle.mailbox.proofs.Laws.{accepted-runs}
+use Rattle.host_replies.specs.declared.counted.Kind.the-variants.{SupportedLogs}
+use Rattle.host_replies.specs.declared.reply.EventsRead.{EventsRead}
+use Rattle.host_replies.specs.declared.reply.LogsRead.{LogsRead}
+use Rattle.host_replies.specs.declared.reply.IdentityRead.{IdentityRead}
+use Rattle.host_replies.specs.declared.reply.ListRead.{ListRead}
+use Rattle.host_replies.specs.declared.reply.PolicyRead.{PolicyRead}
+use Rattle.host_replies.specs.declared.reply.TimeRead.{TimeRead}
+use Rattle.host_replies.specs.Counted.{header-size, record-size, first-reserved, reserved, writing-verdict}
+use Rattle.host_replies.specs.Replies.{read-timestamp, read-supported-logs, logs-header, identity-limits, identity-bytes, read-identity, read-nothing, supported-log}
+use Rattle.host_replies.specs.Fields.{IdentityWidths}
+use Rattle.host_replies.specs.DeviceReplies.{reading-code, Plain, Holds, EventsTold, PolicyTold, TimeTold, LogsTold, LogTold, IdentityTold, ListTold}
+use Rattle.host_replies.specs.DeviceReplies as Told
+use Rattle.wire.proofs.Splice.{number-read}
+use Rattle.host_replies.proofs.Accepted.{policy-taken, time-taken, log-taken, nothing-taken}
+use Rattle.host_replies.proofs.Rereading.{logs-reread, identity-reads}
+use Rattle.host_replies.proofs.DeviceReplies.{log-holds, list-holds}
+
+-- ---- the replies of no count, and that of Get Supported Logs
+-- the device time has 64 bits
+time-small : (d : DeviceState) (time : ℕ) → device-time (d .clock) time < 256 ^ 8
+unfolding device-time
+time-small d time = either (λ (x : ℕ). x < 256 ^ 8) (d .clock .set) (omega arith) (omega arith)
+
+time-holds : (d : DeviceState) (time : ℕ) → read-timestamp (get-timestamp (d .clock) time .bytes) ≡ record { code = 0; time = device-time (d .clock) time }
+unfolding get-timestamp
+time-holds d time =
+    time-taken (le 8 (device-time (d .clock) time)) (length-le 8 (device-time (d .clock) time))
+    ∙ ap (λ (x : ℕ). record { code = 0; time = x }) (number-read 8 (device-time (d .clock) time) (time-small d time))
+
+-- one log, the Command Effects Log, of 48 bytes
+logs-writable : writing-verdict SupportedLogs 1 (effects-log-id ++ le 4 effects-log-size) 28 .code ≡ 0
+unfolding writing-verdict header-size record-size first-reserved reserved effects-log-id le
+logs-writable = refl
+
+logs-hold : Holds SupportedLogs read-supported-logs (get-supported-logs .bytes) (record { code = 0; place = 0; count = 1 }) (effects-log-id ++ le 4 effects-log-size)
+unfolding get-supported-logs logs-header le effects-log-id
+logs-hold = let r = logs-reread 1 (omega arith) (effects-log-id ++ le 4 effects-log-size) 28 logs-writable in record { fields = r .fields; records = r .records }
+
+log-listed : supported-log (effects-log-id ++ le 4 effects-log-size) 0 ≡ record { identifier = effects-log-id; size = effects-log-size }
+unfolding supported-log part field number effects-log-id le
+log-listed = refl
+
+identity-widths : (volatile persistent : ℕ) → volatile + persistent < 256 ^ 8 → IdentityWidths (Told.identity-told volatile persistent)
+unfolding version
+identity-widths volatile persistent small = omega arith
+
+identity-holds : (volatile persistent : ℕ) → volatile + persistent < 256 ^ 8
+    → read-identity (identify volatile persistent .bytes) ≡ record { code = 0; fields = Told.identity-told volatile persistent }
+unfolding identify version limits identity-bytes identity-limits le
+identity-holds volatile persistent small = identity-reads (Told.identity-told volatile persistent) (identity-widths volatile persistent small) (omega arith)
+
+-- ---- a reply given with number 0 is the one that its definition has
+module _ (p : List ℕ) where
+  effects-long : length effects-log ≡ 48
+  unfolding effects-log commands le
+  effects-long = refl
+
+  log-given : get-log p .code ≡ 0 → (get-log p .bytes ≡ part (log-offset p) (log-length p) effects-log) × (length (get-log p .bytes) ≡ log-length p)
+  unfolding get-log
+  log-given z = go (same (part 0 16 p) effects-log-id) (leb (log-length p) mailbox-size) (leb (log-offset p + log-length p) effects-log-size) refl z
+    where
+      bytes : List ℕ
+      bytes = part (log-offset p) (log-length p) effects-log
+
+      go : (a b c : Bool) → leb (log-offset p + log-length p) effects-log-size ≡ c
+          → need a (no-reply 23) (need b (no-reply 2) (need c (no-reply 2) (replied-bytes bytes))) .code ≡ 0
+          → (need a (no-reply 23) (need b (no-reply 2) (need c (no-reply 2) (replied-bytes bytes))) .bytes ≡ bytes)
+          × (length (need a (no-reply 23) (need b (no-reply 2) (need c (no-reply 2) (replied-bytes bytes))) .bytes) ≡ log-length p)
+      go true true true q z =
+          let l = leb-true (log-offset p + log-length p) effects-log-size q in
+          (refl, length-part (log-offset p) (log-length p) effects-log (omega (arith, effects-long)))
+      go true true false q z = absurd (omega arith)
+      go true false c q z = absurd (omega arith)
+      go false b c q z = absurd (omega arith)
+
+  list-given : (lines : ℕ) (s : PoisonState) → get-poison-list lines s p .code ≡ 0 → get-poison-list lines s p .bytes ≡ list-reply s (line-of (field p 0 8)) (field p 8 8)
+  unfolding get-poison-list
+  list-given lines s z = go (eqb code 0) refl z
+    where
+      code : ℕ
+      code = range-code lines (field p 0 8) (field p 8 8)
+
+      bytes : List ℕ
+      bytes = list-reply s (line-of (field p 0 8)) (field p 8 8)
+
+      go : (b : Bool) → eqb code 0 ≡ b → need b (no-reply code) (replied-bytes bytes) .code ≡ 0 → need b (no-reply code) (replied-bytes bytes) .bytes ≡ bytes
+      go true q z = refl
+      go false q z = absurd (eqb-false code 0 q z)
+
+-- ---- commands answered with Success
+module _ (d : DeviceState) (plain : Plain d) (p : List ℕ) (time room : ℕ) where
+  -- what holds of the reply of the opcode's command holds of the answer's
+  answered : (op : ℕ) (P : List ℕ → Type 0) → (run-command d op p time .code ≡ 0 → P (run-command d op p time .reply)) → outcome d op p time room .code ≡ 0
+      → P (outcome d op p time room .reply)
+  answered op P f z = let r = accepted-runs d op p time room z in rw r (f (sym (ap (λ (o : Outcome). o .code) r) ∙ z))
+
+  events-given : get-event-records (d .logs) p .code ≡ 0 → EventsTold d p (get-event-records (d .logs) p .bytes)
+  unfolding get-event-records
+  events-given z =
+      let k = log-read event-records (d .logs) (getD p 0 0) z in
+      rw (k .1) (log-holds (log-at (d .logs) (getD p 0 0)) (plain .logs (getD p 0 0) (k .0)))
+
+  logs-given : LogsTold (get-supported-logs .bytes)
+  logs-given = record { fields = logs-hold .fields; log = rw (logs-hold .records) log-listed }
+
+  part-given : get-log p .code ≡ 0 → LogTold p (get-log p .bytes)
+  part-given z = let k = log-given p z in record { size = log-taken (get-log p .bytes) (log-length p) (k .1); bytes = k .0 }
+
+  range-given : get-poison-list (lines-of d) (d .poison) p .code ≡ 0 → ListTold d p (get-poison-list (lines-of d) (d .poison) p .bytes)
+  range-given z = rw (list-given p (lines-of d) (d .poison) z) (list-holds (d .poison) (plain .list) (line-of (field p 0 8)) (field p 8 8))
+
+  -- THE THEOREM of the fields, a command each: on Success the reply tells what the device's definitions say.
+  pub events-told : outcome d 0x0100 p time room .code ≡ 0 → EventsTold d p (outcome d 0x0100 p time room .reply)
+  unfolding run-command
+  events-told = answered 0x0100 (EventsTold d p) events-given
+
+  pub policy-told : outcome d 0x0102 p time room .code ≡ 0 → PolicyTold d (outcome d 0x0102 p time room .reply)
+  unfolding run-command get-policy
+  policy-told = answered 0x0102 (PolicyTold d) (λ z. policy-taken (d .policy) (plain .policy))
+
+  pub time-told : outcome d 0x0300 p time room .code ≡ 0 → TimeTold d time (outcome d 0x0300 p time room .reply)
+  unfolding run-command
+  time-told = answered 0x0300 (TimeTold d time) (λ z. time-holds d time)
+
+  pub logs-told : outcome d 0x0400 p time room .code ≡ 0 → LogsTold (outcome d 0x0400 p time room .reply)
+  unfolding run-command
+  logs-told = answered 0x0400 LogsTold (λ z. logs-given)
+
+  pub log-told : outcome d 0x0401 p time room .code ≡ 0 → LogTold p (outcome d 0x0401 p time room .reply)
+  unfolding run-command
+  log-told = answered 0x0401 (LogTold p) part-given
+
+  pub identity-told : outcome d 0x4000 p time room .code ≡ 0 → IdentityTold d (outcome d 0x4000 p time room .reply)
+  unfolding run-command
+  identity-told = answered 0x4000 (IdentityTold d) (λ z. identity-holds (d .volatile) (d .persistent) (plain .units))
+
+  pub list-told : outcome d 0x4300 p time room .code ≡ 0 → ListTold d p (outcome d 0x4300 p time room .reply)
+  unfolding run-command
+  list-told = answered 0x4300 (ListTold d p) range-given
+
+  -- ---- every opcode
+  -- an outcome whose reply a reading accepts, if its number is 0
+  record Accepts (read : List ℕ → ℕ) (o : Outcome) : Type 0 where
+    accepts : o .code ≡ 0 → read (o .reply) ≡ 0
+
+  -- the outcome and the reading of one opcode, or those of the others
+  choice : (b : Bool) {r s : List ℕ → ℕ} {o q : Outcome} → Accepts r o → Accepts s q → Accepts (λ bs. cond b (r bs) (s bs)) (cond b o q)
+  choice true h k = record { accepts = h .accepts }
+  choice false h k = record { accepts = k .accepts }
+
+  silent : (code : ℕ) (next : DeviceState) → Accepts read-nothing (changes code next)
+  silent code next = record { accepts = λ z. nothing-taken [] refl }
+
+  run-accepts : (op : ℕ) → Accepts (reading-code op (log-length p)) (run-command d op p time)
+  unfolding reading-code run-command clear-event-records get-policy
+  run-accepts op =
+      choice (eqb op 0x0100) (record { accepts = λ z. ap (λ (r : EventsRead). r .code) (events-given z .fields) })
+      (choice (eqb op 0x0101) (silent _ _)
+      (choice (eqb op 0x0102) (record { accepts = λ z. ap (λ (r : PolicyRead). r .code) (policy-taken (d .policy) (plain .policy)) })
+      (choice (eqb op 0x0103) (silent _ _)
+      (choice (eqb op 0x0300) (record { accepts = λ z. ap (λ (r : TimeRead). r .code) (time-holds d time) })
+      (choice (eqb op 0x0301) (silent _ _)
+      (choice (eqb op 0x0400) (record { accepts = λ z. ap (λ (r : LogsRead). r .code) (logs-given .fields) })
+      (choice (eqb op 0x0401) (record { accepts = λ z. part-given z .size })
+      (choice (eqb op 0x4000) (record { accepts = λ z. ap (λ (r : IdentityRead). r .code) (identity-holds (d .volatile) (d .persistent) (plain .units)) })
+      (choice (eqb op 0x4300) (record { accepts = λ z. ap (λ (r : ListRead). r .code) (range-given z .fields) })
+      (choice (eqb op 0x4301) (silent _ _)
+      (choice (eqb op 0x4302) (silent _ _)
+      (record { accepts = λ z. absurd (omega arith) }))))))))))))
+
+-- THE THEOREM of acceptance: every reply that the device gives on Success, to any opcode, is accepted by the reading of that opcode's reply.
+pub accepted : (d : DeviceState) → Plain d → (op : ℕ) (p : List ℕ) (time room : ℕ) → outcome d op p time room .code ≡ 0
+    → reading-code op (field p 20 4) (outcome d op p time room .reply) ≡ 0
+accepted d plain op p time room =
+    answered d plain p time room op (λ (bs : List ℕ). reading-code op (log-length p) bs ≡ 0) (run-accepts d plain p time room op .accepts)
