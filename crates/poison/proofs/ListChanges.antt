@@ -11,7 +11,7 @@ use lib.Seq.{set-getD, take-set-lt}
 use Rattle.poison.specs.declared.list.PoisonList.{PoisonList}
 use Rattle.poison.specs.Runs.{Run, run, total}
 use Rattle.poison.specs.Shift.{zip, putAt, pullAt}
-use Rattle.poison.specs.State.{Entry, PoisonState, entry, shape, shapes, runs-in, entries-in, entries-of, state-of, insert-entry, damage-total}
+use Rattle.poison.specs.State.{Entry, PoisonState, entry, shape, shapes, runs-in, entries-in, entries-of, state-of, insert-entry, damage-total, sum-of, total-in}
 use Rattle.poison.specs.Search.{place-of}
 use Rattle.poison.specs.List.{with-entries, InsertedAt, Inserted}
 use Rattle.poison.proofs.Moves.{take-put, drop-put, take-pull, first-le}
@@ -155,23 +155,18 @@ module _ (l : PoisonList) (sized : Sized l) (at lines : ℕ) where
   shortened-at h = replaced-at l sized (shortened l at lines) at (getD (l .starts) at 0) lines h (sym (set-getD (l .starts) at 0)) refl refl refl refl refl
 
 -- ---- the sum of the lengths
--- the sum of some numbers
-abbrev pub sum-of : List ℕ → ℕ
-sum-of [] = 0
-sum-of (n ∷ ns) = n + sum-of ns
-
 pub sum-next : (ns : List ℕ) (i : ℕ) → sum-of (take (suc i) ns) ≡ sum-of (take i ns) + getD ns i 0
 sum-next [] zero = refl
 sum-next [] (suc i) = refl
 sum-next (n ∷ ns) zero = omega arith
 sum-next (n ∷ ns) (suc i) = let q = sum-next ns i in omega arith
 
-total-runs : (n : ℕ) (starts lengths : List ℕ) → length starts ≡ length lengths → total (runs-in n starts lengths) ≡ sum-of (take n lengths)
+total-runs : (n : ℕ) (starts lengths : List ℕ) → length starts ≡ length lengths → total (runs-in n starts lengths) ≡ total-in n lengths
 total-runs zero starts lengths e = refl
 total-runs (suc n) [] [] e = refl
 total-runs (suc n) [] (m ∷ lengths) e = absurd (omega arith)
 total-runs (suc n) (s ∷ starts) [] e = absurd (omega arith)
 total-runs (suc n) (s ∷ starts) (m ∷ lengths) e = ap (λ (k : ℕ). m + k) (total-runs n starts lengths (omega arith))
 
-pub total-is : (l : PoisonList) (sized : Sized l) → sum-of (take (l .count) (l .lengths)) ≡ damage-total (state-of l)
+pub total-is : (l : PoisonList) (sized : Sized l) → total-in (l .count) (l .lengths) ≡ damage-total (state-of l)
 total-is l sized = sym (ap total (shapes-of l sized) ∙ total-runs (l .count) (l .starts) (l .lengths) (same-lengths l sized))

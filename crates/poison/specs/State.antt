@@ -3,7 +3,7 @@
 use mathlib.Core.Path.{_≡_}
 use mathlib.Core.Bool.{Bool, false, cond}
 use mathlib.Core.List.{List, [], _∷_, map}
-use Prim.Native.Nat.{ℕ, _≤_, _<_}
+use Prim.Native.Nat.{ℕ, _+_, _≤_, _<_}
 use lib.Dec.{ltb}
 use lib.ListN.{length, take}
 use Rattle.poison.specs.declared.list.PoisonList.{PoisonList}
@@ -68,6 +68,14 @@ entries-in n starts lengths kinds = take n (zip (λ r k. entry k r) (zip run sta
 
 abbrev pub entries-of : PoisonList → List Entry
 entries-of l = entries-in (l .count) (l .starts) (l .lengths) (l .kinds)
+
+-- the sum of some numbers; of the first n lengths that stand in an array
+abbrev pub sum-of : List ℕ → ℕ
+sum-of [] = 0
+sum-of (n ∷ ns) = n + sum-of ns
+
+abbrev pub total-in : ℕ → List ℕ → ℕ
+total-in n lengths = sum-of (take n lengths)
 
 abbrev pub state-of : PoisonList → PoisonState
 state-of l = record { entries = entries-of l; overflow = l .overflow; overflow-time = l .«overflow_time» }

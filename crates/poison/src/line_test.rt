@@ -2,8 +2,9 @@
 use crate::list::PoisonList;
 use crate::search;
 ghost use mathlib.Core.Path.{_≡_};
-ghost use Rattle.poison.specs.State.{state-of, capacity, ValidList};
-ghost use Rattle.poison.specs.LineTest.{line-test, answer-number, answer-type};
+ghost use lib.ListN.{length};
+ghost use Rattle.poison.specs.State.{state-of, capacity, ValidRuns, ValidList};
+ghost use Rattle.poison.specs.LineTest.{line-test, list-in, answer-number, answer-type};
 
 // What the host is told of a line; document 01's numbers are `answer-number` and `answer-type`.
 pub enum LineTest {
@@ -34,20 +35,41 @@ pub fn answer_kind(answer: LineTest) -> u64
     }
 }
 
+// Line test of a line, over the arrays of a list: lent from where the list lies, they are not copied.
+pub fn test_in<'a>(
+    starts: &'a [u32; 256],
+    lengths: &'a [u32; 256],
+    kinds: &'a [u8; 256],
+    count: usize,
+    overflow: bool,
+    line: u32,
+) -> LineTest
+    requires { ⌜ ValidRuns capacity count (now starts) (now lengths) × (length (now kinds) ≡ 256) ⌝ }
+    ensures { λ r. ⌜ r ≡ line-test (list-in count (now (starts .entry)) (now (lengths .entry)) (now (kinds .entry)) overflow) line ⌝ }
+{
+    let at = search::cover(starts, lengths, count, line);
+    if at < count {
+        return LineTest::Damaged(kinds[at]);
+    }
+    if overflow {
+        return LineTest::Unknown;
+    }
+    LineTest::Clean
+}
+
 impl PoisonList {
     // Line test of a line.
     pub fn test(self, line: u32) -> LineTest
         requires { ⌜ ValidList capacity self ⌝ }
         ensures { λ r. ⌜ r ≡ line-test (state-of self) line ⌝ }
     {
-        let n = self.count;
-        let at = search::cover(&self.starts, &self.lengths, n, line);
-        if at < n {
-            return LineTest::Damaged(self.kinds[at]);
-        }
-        if self.overflow {
-            return LineTest::Unknown;
-        }
-        LineTest::Clean
+        test_in(
+            &self.starts,
+            &self.lengths,
+            &self.kinds,
+            self.count,
+            self.overflow,
+            line,
+        )
     }
 }

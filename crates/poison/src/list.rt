@@ -4,16 +4,39 @@ use crate::search;
 use crate::shift;
 ghost use mathlib.Core.Path.{_≡_};
 ghost use Prim.Native.Nat.{_≤_, _<_};
-ghost use Rattle.poison.specs.State.{state-of, capacity, ValidList, Made, damage-total};
+ghost use Rattle.poison.specs.State.{state-of, capacity, ValidList, Made, damage-total, total-in};
 ghost use Rattle.poison.specs.List.{InsertedAt, Inserted, Flagged};
 
+// The fields that are public are lent or copied out by crate `embed`, which has the list behind a pointer; no other crate names one (tests/layers).
+#[repr(C)]
 pub struct PoisonList {
-    pub(crate) starts: [u32; 256],
-    pub(crate) lengths: [u32; 256],
-    pub(crate) kinds: [u8; 256],
-    pub(crate) count: usize,
-    pub(crate) overflow: bool,
+    pub starts: [u32; 256],
+    pub lengths: [u32; 256],
+    pub kinds: [u8; 256],
+    pub count: usize,
+    pub overflow: bool,
     pub(crate) overflow_time: u64,
+}
+
+// A number of lines in 64 bits. Of an element read behind a reference the prover knows no bound; of an argument it does.
+fn wide(lines: u32) -> u64
+    ensures { λ r. ⌜ (r ≡ lines) × (r < 4294967296) ⌝ }
+{
+    lines as u64
+}
+
+// The sum of the first `count` lengths, over the array of a list: lent from where the list lies, it is not copied.
+pub fn total_in(lengths: &[u32; 256], count: usize) -> u64
+    requires { ⌜ count ≤ 256 ⌝ }
+    ensures { λ r. ⌜ r ≡ total-in count (now (lengths .entry)) ⌝ }
+{
+    let mut total: u64 = 0;
+    let mut i: usize = 0;
+    while i < count {
+        total += wide(lengths[i]);
+        i += 1;
+    }
+    total
 }
 
 impl PoisonList {
@@ -36,14 +59,7 @@ impl PoisonList {
         requires { ⌜ ValidList capacity self ⌝ }
         ensures { λ r. ⌜ r ≡ damage-total (state-of self) ⌝ }
     {
-        let n = self.count;
-        let mut total: u64 = 0;
-        let mut i: usize = 0;
-        while i < n {
-            total += self.lengths[i] as u64;
-            i += 1;
-        }
-        total
+        total_in(&self.lengths, self.count)
     }
 
     // The overflow flag.
