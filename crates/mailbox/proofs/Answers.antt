@@ -51,14 +51,6 @@ module _ (d : Device) (op : ℕ) (p : List ℕ) (t room : ℕ) where
   unfolding outcome
   answer-at o e h a = equal-outcome (simp e (ap (λ (x : ℕ). run-command (state-of d) x p t) h)) a
 
-  -- no command has the opcode
-  pub unknown-answer : {before : List ℕ} → ValidDevice d → admission op (length p) room ≡ 0 → run-command (state-of d) op p t ≡ refused unsupported (state-of d)
-      → Answered (outcome (state-of d) op p t room) d (record { code = unsupported; length = 0; device = d }) before before
-  unfolding splice
-  unknown-answer v e h =
-      answer-at op e refl
-      (equal-outcome h (record { code = refl; size = refl; next = refl; bytes = refl; refused = λ f. refl; valid = v }))
-
 -- the device with the logs, or the list, that it has
 pub same-logs : (d : Device) {ls : List Log} → ls ≡ d .logs
     → record { volatile = d .volatile; persistent = d .persistent; clock = d .clock; policy = d .policy; logs = ls; poison = d .poison } ≡ d

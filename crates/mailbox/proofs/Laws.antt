@@ -15,5 +15,8 @@ pub use Rattle.mailbox.proofs.Accepted.{admitted-runs, accepted-runs, c
 pub use Rattle.mailbox.proofs.Addresses.{line-inside, range-ends}
 -- A media report that its checks do not refuse is of a type of three bits and of lines of the device.
 pub use Rattle.mailbox.proofs.DeviceAnswers.{media-zero}
+-- The answer of a function over parts, at the parts of a valid device, is that device's answer, with the part that follows in its place. For the two of one log: where the log was taken
+-- from, and is put back to, the place that the payload, or the log's number, names.
+pub use Rattle.mailbox.proofs.PartAnswers.{list-parts-answered, log-parts-answered, settings-parts-answered, event-parts-done, media-parts-done}
 -- To unfold `rules` is to unfold every definition of a call: on a device that is written out it then computes.
 unfoldable pub use Rattle.mailbox.proofs.Computing.{rules}

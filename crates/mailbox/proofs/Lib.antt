@@ -11,6 +11,7 @@ pub mod Answers
 pub mod EventAnswers
 pub mod ListAnswers
 pub mod DeviceAnswers
+pub mod PartAnswers
 pub mod Demand1
 pub mod Computing
 pub mod Laws

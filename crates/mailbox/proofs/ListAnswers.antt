@@ -18,7 +18,7 @@ use Rattle.mailbox.specs.declared.outcome.Done.{Done}
 use Rattle.mailbox.specs.declared.poison_commands.ListChanged.{ListChanged}
 use Rattle.mailbox.specs.declared.device.Device.{Device}
 use Rattle.wire.specs.Returns.{success, inject-limit}
-use Rattle.mailbox.specs.Numbers.{unit-lines, mailbox-size, poison-records}
+use Rattle.mailbox.specs.Numbers.{unit-lines, most-units, mailbox-size, poison-records}
 use Rattle.mailbox.specs.State as D
 use Rattle.mailbox.specs.State.{ValidDevice}
 use Rattle.mailbox.specs.Outcome.{replied, no-reply, reads}
@@ -162,18 +162,19 @@ module _ (lines : ℕ) (l : PoisonList) (p : List ℕ) (address : ℕ) (e : addr
         ∙ reply-written s k (field p 8 8) found count (here .number) isc before room)
 
 -- ---- at the mailbox
-module _ (d : Device) (lines : ℕ) (v : ValidDevice d) (e : lines ≡ unit-lines * (d .volatile + d .persistent)) where
-  -- the device's list is valid on its lines, of which there are not too many
-  pub device-list : ValidList lines (d .poison)
-  device-list = valid-more (omega arith) (v .poison)
-
+-- a device of at most the most units has not too many lines, and its list is valid on them and, as the list's functions ask, on the largest device
+module _ {units lines : ℕ} (few : units ≤ most-units) (e : lines ≡ unit-lines * units) where
   pub device-lines : lines ≤ capacity
-  device-lines = omega (arith, v .few-units)
+  device-lines = omega (arith, few, e)
 
-  -- and so on the largest device, as the list's functions ask
-  pub device-any : ValidList capacity (d .poison)
-  device-any = valid-more device-lines device-list
+  module _ {l : PoisonList} (v : ValidList (unit-lines * units) l) where
+    pub device-list : ValidList lines l
+    device-list = valid-more (omega arith) v
 
+    pub device-any : ValidList capacity l
+    device-any = valid-more device-lines device-list
+
+module _ (d : Device) (lines : ℕ) (v : ValidDevice d) (e : lines ≡ unit-lines * (d .volatile + d .persistent)) where
   pub list-read : (p : List ℕ) {r : Done} {before after : List ℕ} → Replied (get-poison-list lines (state-of (d .poison)) p) r before after
       → Answered (reads (D.state-of d) (get-poison-list (D.lines-of (D.state-of d)) (state-of (d .poison)) p)) d (record { code = r .code; length = r .length; device = d }) before after
   list-read p {r} {before} {after} a =

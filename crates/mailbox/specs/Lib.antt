@@ -12,3 +12,4 @@ pub mod PoisonCommands
 pub mod Mailbox
 pub mod DeviceCalls
 pub mod Contracts
+pub mod ByParts

@@ -8,6 +8,7 @@ ghost use Rattle.mailbox.specs.Clock.{device-time, get-timestamp, set-ti
 ghost use Rattle.mailbox.specs.Contracts.{Replied};
 
 // Never set, or the value set and the caller's time at the setting.
+#[repr(C)]
 pub struct Clock {
     pub(crate) set: bool,
     pub(crate) value: u64,

@@ -1,33 +1,29 @@
 // The device: what it holds, how it is made, and its mailbox.
-use crate::admission;
-use crate::clock;
+use crate::by_parts;
 use crate::clock::Clock;
-use crate::effects_log;
-use crate::identity;
-use crate::poison_commands;
-use crate::policy;
-use events::clear;
-use events::get;
 use events::log;
 use events::log::Log;
 use poison::list::PoisonList;
 use wire::returns;
 ghost use mathlib.Core.Path.{_≡_};
-ghost use Prim.Native.Nat.{_+_, _*_, _≤_};
+ghost use Prim.Native.Nat.{_+_, _≤_};
 ghost use lib.ListN.{length};
-ghost use Rattle.mailbox.specs.Numbers.{unit-lines, most-units};
+ghost use Rattle.mailbox.specs.Numbers.{most-units};
 ghost use Rattle.mailbox.specs.State.{ValidDevice, state-of};
 ghost use Rattle.mailbox.specs.Mailbox.{outcome};
 ghost use Rattle.mailbox.specs.DeviceCalls.{make, new-device};
 ghost use Rattle.mailbox.specs.Contracts.{Answered, Makes};
 
+// The fields are public, and laid out as C does, for crate `embed` alone: it has a device behind a C program's pointer, and lends or copies out the parts that `by_parts` asks for
+// without the others. No other crate may name them (`tests/layers`): to it a device is what the calls below answer.
+#[repr(C)]
 pub struct Device {
-    pub(crate) volatile: u16,
-    pub(crate) persistent: u16,
-    pub(crate) clock: Clock,
-    pub(crate) policy: [u8; 5],
-    pub(crate) logs: [Log; 5],
-    pub(crate) poison: PoisonList,
+    pub volatile: u16,
+    pub persistent: u16,
+    pub clock: Clock,
+    pub policy: [u8; 5],
+    pub logs: [Log; 5],
+    pub poison: PoisonList,
 }
 
 // The answer to a command: the return number, the length of the reply, and the device that follows.
@@ -41,14 +37,6 @@ pub struct Answer {
 pub struct Made {
     pub code: u16,
     pub device: Device,
-}
-
-// The lines of so many units.
-pub(crate) fn lines_of(volatile: u16, persistent: u16) -> u32
-    requires { ⌜ volatile + persistent ≤ most-units ⌝ }
-    ensures { λ r. ⌜ r ≡ unit-lines * (volatile + persistent) ⌝ }
-{
-    4194304 * ((volatile as u32) + (persistent as u32))
 }
 
 impl Device {
@@ -96,91 +84,59 @@ impl Device {
         }
     }
 
-    // The device's answer to a command, with the caller's time; the reply is written to the lent buffer. The arms set the number, the length and
-    // parts of the device, and the answer is made once after them: each further device handed over would be a copy of some 8 KB.
+    // The device's answer to a command, with the caller's time; the reply is written to the lent buffer. The part that the command sees is taken out and put back, and the
+    // answer is made once after that: each further device handed over would be a copy of some 7.6 KB.
     pub fn command(mut self, opcode: u16, payload: &[u8], time: u64, reply: &mut [u8]) -> Answer
         requires { ⌜ ValidDevice self ⌝ }
         ensures { λ r. ⌜ Answered (outcome (state-of self) opcode (now (payload .entry)) time (length (now (reply .entry)))) self r (now (reply .entry)) (now (reply .exit)) ⌝ }
     {
-        let mut code = admission::admitted(opcode, payload.len(), reply.len());
+        let volatile = self.volatile;
+        let persistent = self.persistent;
+        let clock = self.clock;
+        let mut code = returns::SUCCESS;
         let mut length: usize = 0;
-        if code == returns::SUCCESS {
-            let lines = lines_of(self.volatile, self.persistent);
-            let clock = self.clock;
-            match opcode {
-                0x0100 => {
-                    let k = payload[0];
-                    code = get::get_code(k);
-                    if code == returns::SUCCESS {
-                        let i = k as usize;
-                        let log = self.logs[i];
-                        length = log.get(15, reply);
-                    }
-                }
-                0x0101 => {
-                    code = clear::clear_code(payload);
-                    if code == returns::SUCCESS {
-                        let k = payload[0] as usize;
-                        let log = self.logs[k];
-                        let cleared = log.clear(payload);
-                        let next = cleared.log;
-                        self.logs[k] = next;
-                        code = cleared.code;
-                    }
-                }
-                0x0102 => {
-                    let done = policy::get(&self.policy, reply);
-                    length = done.length;
-                }
-                0x0103 => {
-                    let settings = policy::set(self.policy[4], payload);
-                    self.policy = settings;
-                }
-                0x0300 => {
-                    let done = clock.get_timestamp(time, reply);
-                    length = done.length;
-                }
-                0x0301 => {
-                    let next = clock::set_timestamp(payload, time);
-                    self.clock = next;
-                }
-                0x0400 => {
-                    let done = effects_log::get_supported_logs(reply);
-                    length = done.length;
-                }
-                0x0401 => {
-                    let done = effects_log::get_log(payload, reply);
-                    code = done.code;
-                    length = done.length;
-                }
-                0x4000 => {
-                    let done = identity::identify(self.volatile, self.persistent, reply);
-                    length = done.length;
-                }
-                0x4300 => {
-                    let list = self.poison;
-                    let done = poison_commands::get(list, lines, payload, reply);
-                    code = done.code;
-                    length = done.length;
-                }
-                0x4301 => {
-                    let list = self.poison;
-                    let done = poison_commands::inject(list, lines, payload);
-                    let next = done.list;
-                    self.poison = next;
-                    code = done.code;
-                }
-                0x4302 => {
-                    let list = self.poison;
-                    let done = poison_commands::clear(list, lines, payload, clock.time(time));
-                    let next = done.list;
-                    self.poison = next;
-                    code = done.code;
-                }
-                _ => {
-                    code = returns::UNSUPPORTED;
-                }
-            }
+        if by_parts::of_list(opcode) {
+            let list = self.poison;
+            let parts = by_parts::list_command(
+                list,
+                clock,
+                volatile,
+                persistent,
+                opcode,
+                payload,
+                time,
+                reply,
+            );
+            let next = parts.list;
+            self.poison = next;
+            code = parts.code;
+            length = parts.length;
+        } else if by_parts::of_log(opcode) {
+            let k = by_parts::log_named(payload);
+            let log = self.logs[k];
+            let parts = by_parts::log_command(log, opcode, payload, reply);
+            let next = parts.log;
+            self.logs[k] = next;
+            code = parts.code;
+            length = parts.length;
+        } else {
+            let policy = self.policy;
+            let parts = by_parts::settings_command(
+                volatile,
+                persistent,
+                clock,
+                policy,
+                opcode,
+                payload,
+                time,
+                reply,
+            );
+            let next = parts.clock;
+            let settings = parts.policy;
+            self.clock = next;
+            self.policy = settings;
+            code = parts.code;
+            length = parts.length;
         }
         Answer {
             code,

@@ -2,6 +2,7 @@
 // poison list and of the event logs: their contracts alone are cited, and no array of theirs is read here.
 // Public functions of a device assume one made here and changed by these calls (`ValidDevice`) and nothing else, and give such a device back.
 mod admission;
+pub mod by_parts;
 pub mod clock;
 pub mod device;
 pub mod device_calls;

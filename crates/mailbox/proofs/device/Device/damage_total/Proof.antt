@@ -7,7 +7,7 @@ use Rattle.mailbox.proofs.device.Device.damage_total.Statement.{stateme
 use Rattle.mailbox.proofs.device.Device.damage_total.Tie as tie
 
 total-requires : tie.Need-total-requires
-total-requires c κs = device-any _ _ (c .before .pre) refl
+total-requires c κs = let v = c .before .pre in device-any (v .few-units) refl (v .poison)
 
 returns : tie.Need-returns
 returns c = search needs
