@@ -1,5 +1,6 @@
 // The device-side calls (document 01, "What the device does"): event report, media report, line test, event status, damage total.
-// A report makes its answer once, after the change: with a second answer for a refusal, parts that do not change would be copied too.
+// A report takes out the part that it sees, hands it to its function of `by_parts` and puts back the part that follows. It makes its answer once, after that: with a
+// second answer for a refusal, parts that do not change would be copied too.
 use crate::by_parts;
 use crate::device::Device;
 use events::status;
@@ -66,7 +67,7 @@ impl Device {
             kind,
         );
         let next = parts.list;
-        let mut after = self;
+        let mut after = self; // stored in `self` itself, the list would have the compiled code copy the five logs too
         after.poison = next;
         MediaAnswer {
             code: parts.code,
