@@ -42,6 +42,10 @@ pub use Rattle.poison.proofs.Agreement.{agrees}
 pub use Rattle.poison.proofs.Drops.{stored-first, dropped-when-full, BothLeft, dropped-by-clear, all-dropped-by-clear, left-by-clear}
 -- `Flags`: a change never clears the overflow flag, and where it sets the flag, some line is in the dropped set after it. So for each of the three.
 pub use Rattle.poison.proofs.Drops.{Flags, report-flags, inject-flags, clear-flags}
+-- `Sized`: the arrays of a list have 256 slots each. A valid list's arrays hold runs in order and apart (`ValidRuns`), as the functions over lent arrays ask.
+pub use Rattle.poison.proofs.Views.{Sized, valid-runs}
+-- The sum of the first `count` lengths is the damage total of the list.
+pub use Rattle.poison.proofs.ListChanges.{total-is}
 -- A line that a report stores has the report's type, one that an injection stores has type 3, one that a clearing leaves covered keeps its type.
 pub use Rattle.poison.proofs.Types.{report-type, inject-type, clear-type}
 

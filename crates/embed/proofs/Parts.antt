@@ -1,0 +1,144 @@
+-- What the printed walks (`tools/walk`) cite: of each function that is handed parts of a device, that the parts of a valid device meet what it requires (`-asks`), and that what it ensures of
+-- the parts is what the call through the pointer ensures of the device (`-gives`). Assumes nothing.
+use mathlib.Core.Path.{_≡_, refl, sym, ap, subst, _∙_}
+use mathlib.Core.Bool.{Bool, true, false, not}
+use mathlib.Core.List.{List, _∷_, []}
+use Prim.Native.Nat.{ℕ, _+_, _*_, _≤_, _<_}
+use native.Mathlib.Omega.{arith}
+use lib.Dec.{T as Holds}
+use lib.ListN.{length, length-map, getD}
+use denote.Laws.{Is}
+use denote.Struct.Laws as LL
+use Rattle.poison.specs.declared.list.PoisonList.{PoisonList}
+use Rattle.poison.specs.State.{capacity, ValidRuns, ValidList, total-in}
+use Rattle.poison.specs.LineTest.{list-in}
+use Rattle.poison.proofs.list.PoisonList as PoisonListT
+use Rattle.poison.proofs.list.PoisonList.Laws as PoisonListL
+use Rattle.poison.proofs.Laws.{Sized, valid-runs, total-is, valid-more}
+use Rattle.events.specs.declared.log.Log.{Log}
+use Rattle.events.specs.Log.{ValidLog, blank}
+use Rattle.events.proofs.log.Log as LogT
+use Rattle.events.proofs.log.Log.Laws as LogL
+use Rattle.mailbox.specs.declared.device.Device.{Device}
+use Rattle.mailbox.specs.declared.by_parts.ListParts.{ListParts}
+use Rattle.mailbox.specs.declared.by_parts.LogParts.{LogParts}
+use Rattle.mailbox.specs.declared.by_parts.SettingsParts.{SettingsParts}
+use Rattle.mailbox.specs.declared.by_parts.EventParts.{EventParts}
+use Rattle.mailbox.specs.declared.by_parts.MediaParts.{MediaParts}
+use Rattle.mailbox.specs.Numbers.{unit-lines, most-units}
+use Rattle.mailbox.specs.State.{DeviceState, ValidDevice, state-of}
+use Rattle.mailbox.specs.Mailbox.{outcome}
+use Rattle.mailbox.specs.DeviceCalls.{event-report, media-report, line-test, damage-total}
+use Rattle.mailbox.specs.Contracts.{Answered, EventDone, MediaDone}
+use Rattle.mailbox.specs.ByParts.{of-list, of-log, log-at, log-named, device-of, with-log, HasLog, ListAnswered, LogAnswered, SettingsAnswered, EventIn, MediaIn}
+use Rattle.mailbox.proofs.device.Device as DeviceT
+use Rattle.mailbox.proofs.device.Device.Laws as DeviceL
+use Rattle.embed.specs.declared.Line.{Line}
+use Rattle.embed.specs.Left.{LineTold, seen}
+use Rattle.embed.proofs.Indexed.{count}
+
+-- what a branch on a test tells of it
+pub is-true : (c : Bool) → Holds c → c ≡ true
+is-true true _ = refl
+is-true false z = absurd z
+
+pub is-false : (c : Bool) → Holds (not c) → c ≡ false
+is-false true z = absurd z
+is-false false _ = refl
+
+-- what lies behind the pointer is a device: each number fits its field, each array has its length
+abbrev pub Held : Device → Type 0
+Held d = Is DeviceT.the-row d (LL.val DeviceT.the-type DeviceL.the-laws d ∷ [])
+
+list-held : (d : Device) → Held d → Is PoisonListT.the-row (d .poison) (LL.val PoisonListT.the-type PoisonListL.the-laws (d .poison) ∷ [])
+list-held d was = LL.owed DeviceT.the-type DeviceL.the-laws d _ was .1 .1 .1 .1 .1 .0
+
+pub sized : (d : Device) → Held d → Sized (d .poison)
+sized d was =
+    record {
+      starts = simp length-map at (LL.owed PoisonListT.the-type PoisonListL.the-laws (d .poison) _ (list-held d was) .0 .1 .0 .1);
+      lengths = simp length-map at (LL.owed PoisonListT.the-type PoisonListL.the-laws (d .poison) _ (list-held d was) .1 .0 .1 .0 .1);
+      kinds = simp length-map at (LL.owed PoisonListT.the-type PoisonListL.the-laws (d .poison) _ (list-held d was) .1 .1 .0 .1 .0 .1);
+    }
+
+-- there are five logs
+five : (d : Device) → Held d → length (d .logs) ≡ 5
+five d was = count LogT.the-type LogL.the-laws 5 (d .logs) _ (LL.owed DeviceT.the-type DeviceL.the-laws d _ was .1 .1 .1 .1 .0)
+
+-- ---- the line test
+-- a device's list is valid on the largest device
+any-lines : (d : Device) → ValidDevice d → ValidList capacity (d .poison)
+any-lines d v = valid-more (omega (arith, v .few-units)) (v .poison)
+
+pub line-in-asks : (d : Device) (address : ℕ) → ValidDevice d → Held d
+    → (d .volatile + d .persistent ≤ most-units) × ValidRuns capacity (d .poison .count) (d .poison .starts) (d .poison .lengths) × (length (d .poison .kinds) ≡ 256)
+line-in-asks d address v was = (v .few-units, valid-runs (d .poison) (sized d was) (any-lines d v), sized d was .kinds)
+
+-- the test sees no other part of the device
+abbrev seen-of : Device → DeviceState
+seen-of d = seen (d .volatile) (d .persistent) (list-in (d .poison .count) (d .poison .starts) (d .poison .lengths) (d .poison .kinds) (d .poison .overflow))
+
+pub line-in-gives : (d : Device) (address : ℕ) → ValidDevice d → Held d → (r : Line) → LineTold (line-test (seen-of d) address) r → LineTold (line-test (state-of d) address) r
+unfolding line-test
+line-in-gives d address v was r told = record { code = told .code; answer = told .answer; kind = told .kind }
+
+-- ---- the damage total
+pub total-in-asks : (d : Device) → ValidDevice d → Held d → d .poison .count ≤ 256
+total-in-asks d v was = v .poison .few
+
+pub total-in-gives : (d : Device) → ValidDevice d → Held d → (r : ℕ) → r ≡ total-in (d .poison .count) (d .poison .lengths) → r ≡ damage-total (state-of d)
+total-in-gives d v was r e = e ∙ total-is (d .poison) (sized d was)
+
+-- ---- a command, by the part that its opcode sees
+module _ (d : Device) (opcode : ℕ) (payload : List ℕ) (time : ℕ) (reply : List ℕ) (v : ValidDevice d) (was : Held d) where
+  -- what the call through the pointer ensures: an answer, and the buffer after
+  abbrev Ends : ℕ → ℕ → Device → List ℕ → Type 0
+  Ends code n next after = Answered (outcome (state-of d) opcode payload time (length reply)) d (record { code = code; length = n; device = next }) reply after
+
+  pub list-command-asks : of-list opcode ≡ true
+      → (1 ≤ d .volatile + d .persistent) × (d .volatile + d .persistent ≤ most-units) × ValidList (unit-lines * (d .volatile + d .persistent)) (d .poison) × (of-list opcode ≡ true)
+  list-command-asks is = (v .some-unit, v .few-units, v .poison, is)
+
+  pub list-command-gives : of-list opcode ≡ true → (r : ListParts) (after : List ℕ) → ListAnswered (d .volatile) (d .persistent) (d .clock) (d .poison) opcode payload time r reply after
+      → Ends (r .code) (r .length) (device-of (d .volatile) (d .persistent) (d .clock) (d .policy) (d .logs) (r .list)) after
+  list-command-gives is r after e = e .answered (d .policy) (d .logs) (v .logs)
+
+  pub log-command-asks : of-list opcode ≡ false → of-log opcode ≡ true → (k : ℕ) → (k ≡ log-named payload) × (k < 5) → ValidLog (getD (d .logs) k blank) × (of-log opcode ≡ true)
+  log-command-asks other is k named = (v .logs .each k (named .1), is)
+
+  pub log-command-gives : of-list opcode ≡ false → of-log opcode ≡ true → (k : ℕ) → (k ≡ log-named payload) × (k < 5) → (r : LogParts) (after : List ℕ)
+      → LogAnswered (getD (d .logs) k blank) opcode payload r reply after → Ends (r .code) (r .length) (with-log d k (r .log)) after
+  log-command-gives other is k named r after e =
+      subst (λ (j : ℕ). Ends (r .code) (r .length) (with-log d j (r .log)) after) (sym (named .0))
+      (e .answered d time (record { valid = v; five = five d was; held = ap (λ (j : ℕ). getD (d .logs) j blank) (sym (named .0)) }))
+
+  pub settings-command-asks : of-list opcode ≡ false → of-log opcode ≡ false
+      → (1 ≤ d .volatile + d .persistent) × (d .volatile + d .persistent ≤ most-units) × (of-list opcode ≡ false) × (of-log opcode ≡ false)
+  settings-command-asks list log = (v .some-unit, v .few-units, list, log)
+
+  pub settings-command-gives : of-list opcode ≡ false → of-log opcode ≡ false → (r : SettingsParts) (after : List ℕ)
+      → SettingsAnswered (d .volatile) (d .persistent) (d .clock) (d .policy) opcode payload time r reply after
+      → Ends (r .code) (r .length) (device-of (d .volatile) (d .persistent) (r .clock) (r .policy) (d .logs) (d .poison)) after
+  settings-command-gives list log r after e = e .answered (d .logs) (d .poison) (v .logs) (v .poison)
+
+-- ---- the event report
+module _ (d : Device) (time log : ℕ) (event : List ℕ) (v : ValidDevice d) (was : Held d) (k : ℕ) (named : (k ≡ log-at log) × (k < 5)) where
+  pub event-report-in-asks : ValidLog (getD (d .logs) k blank)
+  event-report-in-asks = v .logs .each k (named .1)
+
+  pub event-report-in-gives : (r : EventParts) → EventIn (getD (d .logs) k blank) (d .clock) time log event r
+      → EventDone (event-report (state-of d) time log event) d (record { code = r .code; stored = r .stored; device = with-log d k (r .log) })
+  event-report-in-gives r e =
+      subst (λ (j : ℕ). EventDone (event-report (state-of d) time log event) d (record { code = r .code; stored = r .stored; device = with-log d j (r .log) })) (sym (named .0))
+      (e .done d (record { valid = v; five = five d was; held = ap (λ (j : ℕ). getD (d .logs) j blank) (sym (named .0)) }) refl)
+
+-- ---- the media report
+pub media-report-in-asks : (d : Device) (time address n kind : ℕ) → ValidDevice d → Held d
+    → (1 ≤ d .volatile + d .persistent) × (d .volatile + d .persistent ≤ most-units) × ValidList (unit-lines * (d .volatile + d .persistent)) (d .poison)
+media-report-in-asks d time address n kind v was = (v .some-unit, v .few-units, v .poison)
+
+pub media-report-in-gives : (d : Device) (time address n kind : ℕ) → ValidDevice d → Held d → (r : MediaParts)
+    → MediaIn (d .volatile) (d .persistent) (d .clock) (d .poison) time address n kind r
+    → MediaDone (media-report (state-of d) time address n kind) d
+    (record { code = r .code; stored = r .stored; dropped = r .dropped; device = device-of (d .volatile) (d .persistent) (d .clock) (d .policy) (d .logs) (r .list) })
+media-report-in-gives d time address n kind v was r e = e .done (d .policy) (d .logs) (v .logs)

@@ -1,0 +1,256 @@
+// The device behind a pointer, for C and Rust to call (`rt staticlib embed`). A function here copies nothing that it neither changes nor hands on: it takes the parts of
+// the device that a call sees, calls the mailbox's function over those parts, and stores the parts that changed. The line test and the damage total lend the arrays of the
+// poison list where they lie.
+// What a caller owes, and nothing here checks: the device was made by `kulduvost_make` and changed by these functions alone, nothing else uses it during a call, the lengths
+// that come with pointers are true, and no two of the areas handed over overlap.
+use events::status::Status;
+use mailbox::by_parts;
+use mailbox::device::Device;
+use poison::line_test;
+use poison::line_test::LineTest;
+use poison::list;
+ghost use mathlib.Core.Path.{_≡_};
+ghost use Prim.Native.Nat.{_+_, _≤_};
+ghost use lib.ListN.{length};
+ghost use Rattle.poison.specs.State.{capacity, ValidRuns};
+ghost use Rattle.poison.specs.LineTest.{list-in};
+ghost use Rattle.mailbox.specs.Numbers.{most-units};
+ghost use Rattle.mailbox.specs.State.{ValidDevice, state-of};
+ghost use Rattle.mailbox.specs.Mailbox.{outcome};
+ghost use Rattle.mailbox.specs.DeviceCalls.{make, event-report, media-report, line-test, event-status, damage-total};
+ghost use Rattle.mailbox.specs.Contracts.{Answered, Makes, EventDone, MediaDone, StatusGiven};
+ghost use Rattle.embed.specs.Left.{made, answered, event-told, media-told, LineTold, seen, device-size};
+
+// The answer to a command: the return number and the length of the reply.
+#[repr(C)]
+pub struct Done {
+    pub code: u16,
+    pub length: usize,
+}
+
+// The answer to an event report: the return number, and whether the record was stored.
+#[repr(C)]
+pub struct Event {
+    pub code: u16,
+    pub stored: bool,
+}
+
+// The answer to a media report: the return number, and the lines stored and dropped.
+#[repr(C)]
+pub struct Media {
+    pub code: u16,
+    pub stored: u32,
+    pub dropped: u32,
+}
+
+// The answer to a line test: the return number, document 01's number of the answer (0 clean, 1 damaged, 2 unknown) and the type of the damage, 0 where there is none.
+#[repr(C)]
+pub struct Line {
+    pub code: u16,
+    pub answer: u8,
+    pub kind: u8,
+}
+
+// The bytes that a device takes, for a caller that does not know its layout.
+#[no_mangle]
+pub extern "C" fn kulduvost_device_size() -> usize
+    ensures { λ r. ⌜ r ≡ device-size ⌝ }
+{
+    7648
+}
+
+// Makes a device of so many units behind the pointer; where it refuses, the device of one volatile unit. What lay there before is not asked to be valid.
+#[no_mangle]
+pub extern "C" fn kulduvost_make(device: &mut Device, volatile: u16, persistent: u16) -> u16
+    ensures { λ r. ⌜ Makes (make volatile persistent) (made r (now (device .exit))) ⌝ }
+{
+    let a = Device::make(volatile, persistent);
+    *device = a.device;
+    a.code
+}
+
+// A command, with the caller's time. The reply is written to the lent buffer, and the device behind the pointer is the one that follows. An opcode sees the poison list, or
+// one event log, or the settings: only that part is copied out and stored back. (Each arm returns by itself, so that the walk of it ends there.)
+#[no_mangle]
+pub extern "C" fn kulduvost_command(
+    device: &mut Device,
+    opcode: u16,
+    payload: &[u8],
+    time: u64,
+    reply: &mut [u8],
+) -> Done
+    requires { ⌜ ValidDevice (now device) ⌝ }
+    ensures { λ r. ⌜ Answered (outcome (state-of (now (device .entry))) opcode (now (payload .entry)) time (length (now (reply .entry)))) (now (device .entry)) (answered r (now (device .exit))) (now (reply .entry)) (now (reply .exit)) ⌝ }
+{
+    if by_parts::of_list(opcode) {
+        let a = by_parts::list_command(
+            device.poison,
+            device.clock,
+            device.volatile,
+            device.persistent,
+            opcode,
+            payload,
+            time,
+            reply,
+        );
+        device.poison = a.list;
+        return Done {
+            code: a.code,
+            length: a.length,
+        };
+    } else if by_parts::of_log(opcode) {
+        let k = by_parts::log_named(payload);
+        let a = by_parts::log_command(device.logs[k], opcode, payload, reply);
+        device.logs[k] = a.log;
+        return Done {
+            code: a.code,
+            length: a.length,
+        };
+    } else {
+        let a = by_parts::settings_command(
+            device.volatile,
+            device.persistent,
+            device.clock,
+            device.policy,
+            opcode,
+            payload,
+            time,
+            reply,
+        );
+        device.clock = a.clock;
+        device.policy = a.policy;
+        return Done {
+            code: a.code,
+            length: a.length,
+        };
+    }
+}
+
+// Event report of a record to a log, at the caller's time. That log alone is copied out and stored back.
+#[no_mangle]
+pub extern "C" fn kulduvost_event_report(
+    device: &mut Device,
+    time: u64,
+    log: u8,
+    event: &[u8],
+) -> Event
+    requires { ⌜ ValidDevice (now device) ⌝ }
+    ensures { λ r. ⌜ EventDone (event-report (state-of (now (device .entry))) time log (now (event .entry))) (now (device .entry)) (event-told r (now (device .exit))) ⌝ }
+{
+    let k = by_parts::log_at(log);
+    let a = by_parts::event_report_in(device.logs[k], device.clock, time, log, event);
+    device.logs[k] = a.log;
+    Event {
+        code: a.code,
+        stored: a.stored,
+    }
+}
+
+// Media report of damage: so many lines from an address on, of a type, at the caller's time.
+#[no_mangle]
+pub extern "C" fn kulduvost_media_report(
+    device: &mut Device,
+    time: u64,
+    address: u64,
+    lines: u32,
+    kind: u8,
+) -> Media
+    requires { ⌜ ValidDevice (now device) ⌝ }
+    ensures { λ r. ⌜ MediaDone (media-report (state-of (now (device .entry))) time address lines kind) (now (device .entry)) (media-told r (now (device .exit))) ⌝ }
+{
+    let a = by_parts::media_report_in(
+        device.poison,
+        device.clock,
+        device.volatile,
+        device.persistent,
+        time,
+        address,
+        lines,
+        kind,
+    );
+    device.poison = a.list;
+    Media {
+        code: a.code,
+        stored: a.stored,
+        dropped: a.dropped,
+    }
+}
+
+// Line test over the parts of a device that it sees, with its answer as numbers. A refused test answers unknown, with type 0.
+fn line_in<'a>(
+    starts: &'a [u32; 256],
+    lengths: &'a [u32; 256],
+    kinds: &'a [u8; 256],
+    count: usize,
+    overflow: bool,
+    volatile: u16,
+    persistent: u16,
+    address: u64,
+) -> Line
+    requires { ⌜ (volatile + persistent ≤ most-units) × ValidRuns capacity count (now starts) (now lengths) × (length (now kinds) ≡ 256) ⌝ }
+    ensures { λ r. ⌜ LineTold (line-test (seen volatile persistent (list-in count (now (starts .entry)) (now (lengths .entry)) (now (kinds .entry)) overflow)) address) r ⌝ }
+{
+    let code = by_parts::check_address(volatile, persistent, address);
+    if code != 0 {
+        return Line {
+            code,
+            answer: 2,
+            kind: 0,
+        };
+    }
+    let line = (address / 64) as u32;
+    let answer = line_test::test_in(starts, lengths, kinds, count, overflow, line);
+    match answer {
+        LineTest::Clean => Line {
+            code,
+            answer: 0,
+            kind: 0,
+        },
+        LineTest::Damaged(kind) => Line {
+            code,
+            answer: 1,
+            kind,
+        },
+        LineTest::Unknown => Line {
+            code,
+            answer: 2,
+            kind: 0,
+        },
+    }
+}
+
+// Line test: what the host is told of the line at an address. Nothing of the list is copied but its count and its flag.
+#[no_mangle]
+pub extern "C" fn kulduvost_line_test(device: &Device, address: u64) -> Line
+    requires { ⌜ ValidDevice (now device) ⌝ }
+    ensures { λ r. ⌜ LineTold (line-test (state-of (now (device .entry))) address) r ⌝ }
+{
+    line_in(
+        &device.poison.starts,
+        &device.poison.lengths,
+        &device.poison.kinds,
+        device.poison.count,
+        device.poison.overflow,
+        device.volatile,
+        device.persistent,
+        address,
+    )
+}
+
+// Event status: which logs wait, how many, and the highest-numbered one, 5 where none waits.
+#[no_mangle]
+pub extern "C" fn kulduvost_event_status(device: &Device) -> Status
+    requires { ⌜ ValidDevice (now device) ⌝ }
+    ensures { λ r. ⌜ StatusGiven (event-status (state-of (now (device .entry)))) r ⌝ }
+{
+    Device::event_status(*device)
+}
+
+// Damage total: the sum of the entries' lengths.
+#[no_mangle]
+pub extern "C" fn kulduvost_damage_total(device: &Device) -> u64
+    requires { ⌜ ValidDevice (now device) ⌝ }
+    ensures { λ r. ⌜ r ≡ damage-total (state-of (now (device .entry))) ⌝ }
+{
+    list::total_in(&device.poison.lengths, device.poison.count)
+}
