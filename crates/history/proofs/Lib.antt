@@ -4,6 +4,7 @@ pub mod Demand1
 pub mod Demand3
 pub mod Damage
 pub mod Ran
+pub mod Linked
 pub mod Drained
 pub mod Replies
 pub mod KeptFirst

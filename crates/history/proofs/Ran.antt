@@ -91,11 +91,11 @@ clean-of (Damaged kind) e = absurd (omega arith)
 clean-of Unknown e = absurd (omega arith)
 
 -- a run of the code that ends in a device, with line k in its paper set
-record Still (v p k : ℕ) (d : Device) : Type 0 where
-  calls : List Call
-  paper : Paper
-  ran : Ran v p calls d paper
-  damaged : paper .set k ≡ true
+pub record Still (v p k : ℕ) (d : Device) : Type 0 where
+  pub calls : List Call
+  pub paper : Paper
+  pub ran : Ran v p calls d paper
+  pub damaged : paper .set k ≡ true
 
 still : (v p k : ℕ) (d e : Device) → Spared k d e → Still v p k d → Still v p k e
 still v p k d e (none _ q) s = rw q s
@@ -127,15 +127,21 @@ module _ (v p : ℕ) (cs : List Call) (d : Device) (w : Paper) (ran : Ran v p cs
       → count (w .set) (lines-of (Device.make v p .next)) ≡ total + count (w .dropped) (lines-of (Device.make v p .next))
   code-size total e = rw e (code-demand-3 v p cs d w ran .size)
 
--- A line that a call of the code reported damaged, by the number that it answered, and that no later call of the code cleared, is answered, and not Clean.
-pub code-reported-blocks : (v p : ℕ) (cs : List Call) (d : Device) (w : Paper) → Ran v p cs d w
-    → (e : Device) (c : Call) (code k : ℕ) → Steps d e c code → reports c code k ≡ true → (f : Device) → Spared k e f
-    → (r : LineAnswer) → LineDone (Device.line-test (state-of f) (k * 64)) r → (r .code ≡ 0) × (r .answer ≡ Clean → ⊥)
-code-reported-blocks v p cs d w ran e c code k s reported f spared r a =
-    let t = still v p k e f spared (record {
+-- A line that a call of the code reported damaged, by the number that it answered, and that no later call of the code cleared, is still in the paper set.
+pub reported-still : (v p : ℕ) (cs : List Call) (d : Device) (w : Paper) → Ran v p cs d w
+    → (e : Device) (c : Call) (code k : ℕ) → Steps d e c code → reports c code k ≡ true → (f : Device) → Spared k e f → Still v p k f
+reported-still v p cs d w ran e c code k s reported f spared =
+    still v p k e f spared (record {
       calls = cs ++ (c ∷ []);
       paper = write w c code;
       ran = called cs (cs ++ (c ∷ [])) d e w (write w c code) ran c code s refl refl;
       damaged = set-reported w c code k reported;
-    }) in
+    })
+
+-- It is answered, and not Clean.
+pub code-reported-blocks : (v p : ℕ) (cs : List Call) (d : Device) (w : Paper) → Ran v p cs d w
+    → (e : Device) (c : Call) (code k : ℕ) → Steps d e c code → reports c code k ≡ true → (f : Device) → Spared k e f
+    → (r : LineAnswer) → LineDone (Device.line-test (state-of f) (k * 64)) r → (r .code ≡ 0) × (r .answer ≡ Clean → ⊥)
+code-reported-blocks v p cs d w ran e c code k s reported f spared r a =
+    let t = reported-still v p cs d w ran e c code k s reported f spared in
     code-blocks v p (t .calls) f (t .paper) (t .ran) k (t .damaged) r a
