@@ -98,7 +98,20 @@ pub struct Plan {
     pub format: Format,
     pub seeds: std::ops::Range<u64>,
     pub profile: Option<String>,
+    /// For a program over the device alone: the records of the host's side are
+    /// taken out of the streams.
+    pub without_host: bool,
     pub timeout: Duration,
+}
+
+impl Plan {
+    fn stream(&self, seed: u64, profile: &Profile, part: usize) -> Vec<u8> {
+        let stream = profile.stream_of(self.format, seed, part, None);
+        match self.without_host {
+            true => without_host(self.format, &stream),
+            false => stream,
+        }
+    }
 }
 
 /// The streams of a plan: seed, profile and number of the stream.
@@ -117,7 +130,7 @@ fn streams(plan: &Plan) -> Vec<(u64, &'static Profile, usize)> {
 pub fn run(plan: &Plan, subject: &Subject, say: &mut dyn FnMut(String)) -> (usize, usize) {
     let (mut passed, mut failed) = (0, 0);
     for (seed, profile, part) in streams(plan) {
-        let stream = profile.stream_of(plan.format, seed, part, None);
+        let stream = plan.stream(seed, profile, part);
         let expected = plan.format.lines_of(&stream, Config::default());
         let difference = match subject.output(stream.clone(), plan.timeout) {
             Ok(came) if came == expected => None,
@@ -148,7 +161,7 @@ pub fn find_faults(plan: &Plan, faults: &[&FaultLine]) -> Vec<Option<String>> {
         if found.iter().all(Option::is_some) {
             break;
         }
-        let stream = profile.stream_of(plan.format, seed, part, None);
+        let stream = plan.stream(seed, profile, part);
         let expected = plan.format.lines_of(&stream, Config::default());
         let host = has_host_record(&expected);
         for (line, found) in faults.iter().zip(&mut found) {
@@ -166,11 +179,32 @@ pub fn find_faults(plan: &Plan, faults: &[&FaultLine]) -> Vec<Option<String>> {
     found
 }
 
+/// The marks of the host's side (document 10, W-202).
+const HOST_MARKS: [&[u8]; 4] = [b"RQ", b"RP", b"RW", b"WK"];
+
+/// Whether a record or a line begins with a mark of the host's side.
+fn is_host(bytes: &[u8]) -> bool {
+    HOST_MARKS.iter().any(|mark| bytes.starts_with(mark))
+}
+
 /// Whether one of the lines answers a record of the host's side.
 fn has_host_record(lines: &[u8]) -> bool {
-    let marks: [&[u8]; 4] = [b"RQ ", b"RP ", b"RW ", b"WK "];
-    let mut lines = lines.split(|byte| *byte == b'\n');
-    lines.any(|line| marks.iter().any(|mark| line.starts_with(mark)))
+    lines.split(|byte| *byte == b'\n').any(is_host)
+}
+
+/// A stream without its records of the host's side, which change no device. A bad
+/// record stays: it is bad for a program that does not know its mark too.
+pub fn without_host(format: Format, stream: &[u8]) -> Vec<u8> {
+    let records = format.records(stream);
+    let begins = records.iter().map(|(offset, _)| *offset as usize);
+    let ends = begins.clone().skip(1).chain([stream.len()]);
+    let mut kept = Vec::new();
+    for ((begin, end), (_, record)) in begins.zip(ends).zip(&records) {
+        if record.is_none() || !is_host(&stream[begin..end]) {
+            kept.extend(&stream[begin..end]);
+        }
+    }
+    kept
 }
 
 /// The first line that differs, with the record it answers.

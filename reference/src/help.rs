@@ -116,8 +116,9 @@ exit status 1 if M is not 0.
         "compare",
         "\
 reference compare --program PATH [--format F] [--seeds A..B] [--profile P]
-                  [--all] [--timeout SECONDS]
+                  [--without-host] [--all] [--timeout SECONDS]
 reference compare --fault NAME|all [--format F] [--seeds A..B] [--profile P]
+                  [--without-host]
 
 Runs the streams of the seeds through PATH and through the model and compares
 the lines. The last line is `N passed, M failed`, counting streams; exit status 1
@@ -130,6 +131,8 @@ faults that the seeds find and M those that they do not.
   --format F         bench (so if not given) or probe
   --seeds A..B       the seeds from A to B - 1 (0..234), or one seed: --seeds A
   --profile P        this profile for all seeds, not the one that a seed chooses
+  --without-host     takes the records of the host's side (RQ, RP, RW, WK) out of the
+                     streams, for a program over the device's library alone
   --all              prints the first difference of every stream, not of one
   --timeout SECONDS  for each stream (60)
   --fault NAME       a planted fault of `reference faults` for the format, or all

@@ -193,6 +193,7 @@ fn run_compare(words: Vec<String>) -> Outcome {
         format,
         seeds: arguments.seeds()?.unwrap_or(DEFAULT_SEEDS),
         profile: arguments.value("--profile")?,
+        without_host: arguments.flag("--without-host"),
         timeout: arguments.timeout()?,
     };
     let all_differences = arguments.flag("--all");

@@ -2,7 +2,7 @@
 //! streams pass through a child process, and a seed gives one stream.
 
 use reference::case::answer::answer;
-use reference::compare::{find_faults, run, Plan, Subject};
+use reference::compare::{find_faults, run, without_host, Plan, Subject};
 use reference::device::numbers::opcode;
 use reference::device::Config;
 use reference::format::Format::{self, Bench, Probe};
@@ -19,6 +19,7 @@ fn plan(format: Format, seeds: std::ops::Range<u64>, profile: Option<&str>) -> P
         format,
         seeds,
         profile: profile.map(str::to_string),
+        without_host: false,
         timeout: Duration::from_secs(60),
     }
 }
@@ -86,6 +87,41 @@ fn every_profile_has_its_seeds() {
             assert!(seeds >= least, "{format:?} {}: {seeds}", profile.name);
         }
     }
+}
+
+/// The records of the host's side change no device: without them a stream gives the
+/// same lines but theirs. A bad rest stays bad, at an offset of its own.
+#[test]
+fn a_stream_without_the_hosts_side() {
+    let marks = ["RQ ", "RP ", "RW ", "WK "];
+    let lines = |stream: &[u8]| -> Vec<String> {
+        let text = String::from_utf8(Probe.lines_of(stream, Config::default())).unwrap();
+        let line = |line: &str| line.split_inclusive("BAD ").next().unwrap().to_string();
+        text.lines().map(line).collect()
+    };
+    for (name, least) in [("everything", 10), ("host-replies", 10), ("malformed", 0)] {
+        let profile = profile_named(Probe, name).unwrap();
+        for part in 0..profile.streams() {
+            let whole = profile.stream_of(Probe, 3, part, None);
+            let (all, left) = (lines(&whole), lines(&without_host(Probe, &whole)));
+            let host = |line: &&String| marks.iter().any(|mark| line.starts_with(mark));
+            assert!(all.iter().filter(host).count() >= least, "{name}");
+            let others: Vec<_> = all.iter().filter(|line| !host(line)).collect();
+            assert_eq!(left.iter().collect::<Vec<_>>(), others, "{name} {part}");
+        }
+    }
+}
+
+#[test]
+fn a_program_without_the_hosts_side() {
+    // A fault of the host's side is not seen where its records are taken out.
+    let faulty = format!("{PROGRAM} probe --fault ");
+    let host = Probe.faults().last().unwrap().name;
+    let subject = Subject::program(&(faulty + host));
+    let mut plan = plan(Probe, 0..1, Some("host-walks"));
+    assert!(run(&plan, &subject, &mut |_| {}).1 > 0, "{host}");
+    plan.without_host = true;
+    assert_eq!(run(&plan, &subject, &mut |_| {}), (7, 0));
 }
 
 #[test]

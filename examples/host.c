@@ -1,0 +1,179 @@
+/*
+ * One guest's memory device in a hypervisor: the mailbox registers, the doorbell, the read path, and the incident that Kulduvost is
+ * there for, replayed. Exits with 1 if anything is not as expected.
+ *
+ *   cc -std=c11 -I OUT/include examples/host.c OUT/lib/libkulduvost.a -o host        (OUT: where tests/library wrote)
+ */
+#define _POSIX_C_SOURCE 199309L
+#include "kulduvost.h"
+#include <stdio.h>
+#include <stdlib.h>
+#include <string.h>
+#include <time.h>
+
+/* ---- The guest's device. All functions of a guest are called with that guest's lock held: one call at a time on a device. */
+
+/* The registers of the primary mailbox (CXL r3.1 section 8.2.8.4). An access of the guest comes to the hypervisor, which does it here. */
+struct mailbox {
+    uint32_t control; /* bit 0: doorbell */
+    uint64_t command; /* bits 0 to 15: opcode; bits 16 to 36: payload length */
+    uint64_t status;  /* bits 32 to 47: return code */
+    uint8_t payload[KULDUVOST_MAILBOX_SIZE];
+};
+
+struct guest {
+    kulduvost_device device;
+    struct mailbox mailbox;
+    uint8_t *memory; /* the bytes that the device stands for: the caller's, not the library's */
+};
+
+#define DOORBELL 1u
+
+static uint64_t now(void) {
+    struct timespec t;
+    clock_gettime(CLOCK_MONOTONIC, &t);
+    return (uint64_t)t.tv_sec * 1000000000u + (uint64_t)t.tv_nsec;
+}
+
+static uint64_t load64(const uint8_t *from) {
+    uint64_t n = 0;
+    for (int i = 7; i >= 0; i--) {
+        n = n << 8 | from[i];
+    }
+    return n;
+}
+
+static void store64(uint8_t *to, uint64_t n) {
+    for (int i = 0; i < 8; i++) {
+        to[i] = (uint8_t)(n >> 8 * i);
+    }
+}
+
+/* A guest with one volatile unit, all zero before make (calloc). Null if there is no memory, or header and library do not fit. */
+static struct guest *guest_new(void) {
+    struct guest *guest = calloc(1, sizeof *guest);
+    if (guest == NULL) {
+        return NULL;
+    }
+    guest->memory = calloc(KULDUVOST_UNIT_LINES, KULDUVOST_LINE_SIZE);
+    if (guest->memory == NULL || kulduvost_device_size() != sizeof guest->device || kulduvost_make(&guest->device, 1, 0) != KULDUVOST_SUCCESS) {
+        free(guest->memory);
+        free(guest);
+        return NULL;
+    }
+    return guest;
+}
+
+static void guest_free(struct guest *guest) {
+    free(guest->memory);
+    free(guest);
+}
+
+/* The read path: one line. Only Success with Clean permits; false fails the guest's read, and no byte is handed out. */
+static bool guest_read(struct guest *guest, uint64_t address, uint8_t line[KULDUVOST_LINE_SIZE]) {
+    kulduvost_line_answer told = kulduvost_line_test(&guest->device, address);
+    if (told.code != KULDUVOST_SUCCESS || told.answer != KULDUVOST_CLEAN) {
+        return false;
+    }
+    memcpy(line, guest->memory + address, KULDUVOST_LINE_SIZE);
+    return true;
+}
+
+/* The hardware told of damage. Nothing is lost where lines are dropped: from then on no line that the list does not cover is Clean. */
+static kulduvost_media_answer guest_damaged(struct guest *guest, uint64_t address, uint32_t lines, uint8_t type) {
+    return kulduvost_media_report(&guest->device, now(), address, lines, type);
+}
+
+/* Runs the command in the registers. Request and reply share the payload area and buffers of a call may not overlap: the request is copied. */
+static kulduvost_command_answer mailbox_run(struct guest *guest) {
+    struct mailbox *mailbox = &guest->mailbox;
+    uint16_t opcode = (uint16_t)mailbox->command;
+    size_t length = mailbox->command >> 16 & 0x1fffff;
+    uint8_t request[KULDUVOST_MAILBOX_SIZE];
+    if (length > sizeof request) { /* more than there is: a length must be true, so the device's own answer is given here */
+        return (kulduvost_command_answer){KULDUVOST_INVALID_PAYLOAD_LENGTH, 0};
+    }
+    memcpy(request, mailbox->payload, length);
+    kulduvost_command_answer done =
+        kulduvost_command(&guest->device, opcode, request, length, now(), mailbox->payload, sizeof mailbox->payload);
+    if (done.code == KULDUVOST_SUCCESS && opcode == KULDUVOST_CLEAR_POISON) {
+        /* document 01: after a Clear Poison answered Success the caller writes payload bytes 8 to 71 to the line; Success says that the
+         * address is aligned and inside the device */
+        memcpy(guest->memory + load64(request), request + 8, KULDUVOST_LINE_SIZE);
+    }
+    return done;
+}
+
+/* The guest rang the doorbell: the command is run, its code and the reply's length are shown, and the doorbell is clear again. */
+static void mailbox_doorbell(struct guest *guest) {
+    kulduvost_command_answer done = mailbox_run(guest);
+    guest->mailbox.status = (uint64_t)done.code << 32;
+    guest->mailbox.command = (guest->mailbox.command & 0xffff) | (uint64_t)done.length << 16;
+    guest->mailbox.control &= ~DOORBELL;
+}
+
+/* ---- The guest's side of the mailbox, played here */
+static uint16_t guest_sends(struct guest *guest, uint16_t opcode, const uint8_t *payload, size_t length) {
+    memcpy(guest->mailbox.payload, payload, length);
+    guest->mailbox.command = opcode | (uint64_t)length << 16;
+    guest->mailbox.control |= DOORBELL;
+    mailbox_doorbell(guest);
+    return (uint16_t)(guest->mailbox.status >> 32);
+}
+
+static uint16_t guest_clears(struct guest *guest, uint64_t address, uint8_t fill) {
+    uint8_t payload[8 + KULDUVOST_LINE_SIZE];
+    store64(payload, address);
+    memset(payload + 8, fill, KULDUVOST_LINE_SIZE);
+    return guest_sends(guest, KULDUVOST_CLEAR_POISON, payload, sizeof payload);
+}
+
+/* ---- The example */
+static bool all_as_expected = true;
+
+static void expect(bool holds, const char *what) {
+    printf("%s  %s\n", holds ? "as expected " : "NOT EXPECTED", what);
+    all_as_expected = all_as_expected && holds;
+}
+
+static uint64_t address_of(uint64_t line) { return line * KULDUVOST_LINE_SIZE; }
+
+static void one_line_damaged_and_cleared(struct guest *guest) {
+    uint8_t line[KULDUVOST_LINE_SIZE];
+    expect(guest_read(guest, address_of(7), line), "a new device: the read of line 7 is served");
+    kulduvost_media_answer told = guest_damaged(guest, address_of(7), 1, 1);
+    expect(told.code == KULDUVOST_SUCCESS && told.stored == 1, "line 7 is reported damaged and stored");
+    expect(!guest_read(guest, address_of(7), line), "the read of line 7 blocks");
+    expect(guest_clears(guest, address_of(7), 0x5a) == KULDUVOST_SUCCESS, "the guest clears line 7 with new data");
+    expect(guest_read(guest, address_of(7), line) && line[0] == 0x5a && line[63] == 0x5a, "the read of line 7 is served with that data");
+    expect(guest_clears(guest, 1, 0) == KULDUVOST_INVALID_INPUT, "a clear of an unaligned address is refused");
+    expect(!guest_read(guest, address_of(KULDUVOST_UNIT_LINES), line), "a read past the device blocks");
+}
+
+/* In spring a poison list was full; one more report of damage was dropped, and the line read as clean. */
+static void incident(struct guest *guest) {
+    uint8_t line[KULDUVOST_LINE_SIZE];
+    bool stored = true;
+    for (uint64_t i = 0; i < KULDUVOST_POISON_ENTRIES; i++) {
+        stored = guest_damaged(guest, address_of(2 * i), 1, 1).stored == 1 && stored;
+    }
+    expect(stored, "256 lines are reported damaged: the poison list is full");
+    expect(guest_read(guest, address_of(1001), line), "the read of line 1001 is still served");
+    kulduvost_media_answer told = guest_damaged(guest, address_of(1001), 1, 1);
+    expect(told.code == KULDUVOST_SUCCESS && told.dropped == 1, "line 1001 is reported damaged and dropped for want of an entry");
+    expect(kulduvost_line_test(&guest->device, address_of(1001)).answer == KULDUVOST_UNKNOWN, "the line test of line 1001 says Unknown");
+    expect(!guest_read(guest, address_of(1001), line), "the read of line 1001 blocks");
+    expect(kulduvost_damage_total(&guest->device) == KULDUVOST_POISON_ENTRIES, "the damage total is 256 lines");
+}
+
+int main(void) {
+    struct guest *guest = guest_new();
+    if (guest == NULL) {
+        fputs("host: no memory, or the header is not this library's\n", stderr);
+        return 1;
+    }
+    one_line_damaged_and_cleared(guest);
+    incident(guest);
+    guest_free(guest);
+    return all_as_expected ? 0 : 1;
+}

@@ -1,0 +1,227 @@
+/*
+ * Kulduvost: a CXL Type 3 mailbox device (poison list, event logs, twelve commands) behind a pointer. C11 and C++11, x86-64 System V.
+ * Link with libkulduvost.a; `tests/library OUT` writes both. The rules are those of the project's document 01; its words stand below.
+ *
+ * What the caller owes, and nothing checks:
+ *  - A device lies in memory of KULDUVOST_DEVICE_SIZE bytes, aligned to KULDUVOST_DEVICE_ALIGN, that is all zero before kulduvost_make
+ *    (calloc does). After kulduvost_make it is changed by these calls alone.
+ *  - One call at a time on a device, those that only read it included. Different devices are independent: there is no global state, no
+ *    lock and no allocation.
+ *  - The device and the buffers of a call do not overlap, and nobody else uses them during the call.
+ *  - Lengths are true, and a pointer is not null even where its length is 0.
+ *
+ * What every call promises:
+ *  - It ends and gives a defined answer, whatever its arguments.
+ *  - A refusal (code not 0) leaves the device and every byte of the reply buffer as they were; a make alone leaves a new device, as said
+ *    there. Refusals are listed in their order: the first that applies is given.
+ *  - A damaged record blocks, never permits: serve a read only where kulduvost_line_test gives code KULDUVOST_SUCCESS with answer
+ *    KULDUVOST_CLEAN. Any other pair blocks.
+ *
+ * `time` is the caller's clock in nanoseconds. It may stand still or go back; no answer about a line depends on it.
+ * Time and stack that a call takes are measured (docs/MEASURES.md), not promised: look there before you call on a small stack.
+ */
+#ifndef KULDUVOST_H
+#define KULDUVOST_H
+
+#include <stdbool.h>
+#include <stddef.h>
+#include <stdint.h>
+
+#if !defined(__x86_64__) || defined(__ILP32__) || defined(_WIN32)
+#error "libkulduvost.a is for x86-64 with the System V calling convention"
+#endif
+
+#ifdef __cplusplus
+#define KULDUVOST_ASSERT(what) static_assert(what, #what)
+#define KULDUVOST_ALIGN(bytes) alignas(bytes)
+#define KULDUVOST_ALIGN_OF(type) alignof(type)
+extern "C" {
+#else
+#define KULDUVOST_ASSERT(what) _Static_assert(what, #what)
+#define KULDUVOST_ALIGN(bytes) _Alignas(bytes)
+#define KULDUVOST_ALIGN_OF(type) _Alignof(type)
+#endif
+
+/* ---- Sizes (document 01, "Numbers") */
+#define KULDUVOST_DEVICE_SIZE 7648       /* bytes of a device */
+#define KULDUVOST_DEVICE_ALIGN 8         /* and their alignment */
+#define KULDUVOST_LINE_SIZE 64           /* bytes of a line */
+#define KULDUVOST_UNIT_LINES 4194304     /* lines of a unit, 256 MiB */
+#define KULDUVOST_UNITS_MAX 1023         /* volatile plus persistent units: 1 to this */
+#define KULDUVOST_MAILBOX_SIZE 2048      /* the longest payload and reply; the least room for a reply */
+#define KULDUVOST_EVENT_LOGS 5           /* logs 0 to 4 */
+#define KULDUVOST_EVENT_RECORD_SIZE 128  /* bytes of an event record */
+#define KULDUVOST_EVENT_LOG_RECORDS 8    /* records that a log has room for */
+#define KULDUVOST_POISON_ENTRIES 256     /* entries that the poison list has room for */
+
+/* ---- Return numbers */
+enum kulduvost_code {
+    KULDUVOST_SUCCESS = 0x0000,
+    KULDUVOST_INVALID_INPUT = 0x0002,
+    KULDUVOST_UNSUPPORTED = 0x0003,
+    KULDUVOST_INVALID_HANDLE = 0x000e,
+    KULDUVOST_INVALID_PHYSICAL_ADDRESS = 0x000f,
+    KULDUVOST_INJECT_POISON_LIMIT = 0x0010,
+    KULDUVOST_INVALID_PAYLOAD_LENGTH = 0x0016,
+    KULDUVOST_INVALID_LOG = 0x0017,
+    KULDUVOST_REPLY_BUFFER_TOO_SMALL = 0x0100 /* house: reply buffer under 2,048 bytes */
+};
+
+/* ---- Opcodes, each with its payload (field and bytes), the command's own refusals in their order, and its reply on Success */
+enum kulduvost_opcode {
+    /* log 1. Log above 4: 0002h. Reply: 32 bytes, then 128 for each record held, oldest first. */
+    KULDUVOST_GET_EVENT_RECORDS = 0x0100,
+    /* log 1, flags 1, count n 1, reserved 3, n handles of 2. Length not 6 + 2n: 0016h; log above 4: 0002h; Clear All (flag bit 0) with
+     * n not 0 or overflow count 0: 0002h; without it, handle i not that of the i-th oldest record: 000Eh. No reply. */
+    KULDUVOST_CLEAR_EVENT_RECORDS = 0x0101,
+    /* No payload. Reply: a setting of 1 byte for each of the five logs. */
+    KULDUVOST_GET_EVENT_INTERRUPT_POLICY = 0x0102,
+    /* a byte for each of logs 0 to 3, or 0 to 4. No reply. */
+    KULDUVOST_SET_EVENT_INTERRUPT_POLICY = 0x0103,
+    /* No payload. Reply: the device time, 8. */
+    KULDUVOST_GET_TIMESTAMP = 0x0300,
+    /* device time 8. No reply. */
+    KULDUVOST_SET_TIMESTAMP = 0x0301,
+    /* No payload. Reply: 28 bytes that name the Command Effects Log. */
+    KULDUVOST_GET_SUPPORTED_LOGS = 0x0400,
+    /* identifier 16, offset 4, length 4. Other identifier: 0017h; length over 2,048, or offset plus length over the log's 48 bytes:
+     * 0002h. Reply: those bytes of the Command Effects Log. */
+    KULDUVOST_GET_LOG = 0x0401,
+    /* No payload. Reply: 69 bytes. */
+    KULDUVOST_IDENTIFY = 0x4000,
+    /* address 8, lines 8. Unaligned: 0002h; end past the device: 000Fh. Reply: 32 bytes, then 16 for each of up to 126 records. */
+    KULDUVOST_GET_POISON_LIST = 0x4300,
+    /* address 8. Unaligned: 0002h; outside: 000Fh; line not covered and 256 entries held: 0010h. No reply. */
+    KULDUVOST_INJECT_POISON = 0x4301,
+    /* address 8, data 64. Unaligned: 0002h; outside: 000Fh. No reply. After Success the caller writes payload bytes 8 to 71 to the line. */
+    KULDUVOST_CLEAR_POISON = 0x4302
+};
+
+/* ---- Event logs */
+enum kulduvost_log {
+    KULDUVOST_LOG_INFO = 0,
+    KULDUVOST_LOG_WARNING = 1,
+    KULDUVOST_LOG_FAILURE = 2,
+    KULDUVOST_LOG_FATAL = 3,
+    KULDUVOST_LOG_DYNAMIC_CAPACITY = 4,
+    KULDUVOST_LOG_NONE = 5 /* event status: no log is waiting */
+};
+
+/* ---- Answers of the line test */
+enum kulduvost_line {
+    KULDUVOST_CLEAN = 0,
+    KULDUVOST_DAMAGED = 1,
+    KULDUVOST_UNKNOWN = 2
+};
+
+/* ---- A device: put it into a struct, an array or memory of your own. Its bytes are the library's. */
+typedef struct kulduvost_device {
+    KULDUVOST_ALIGN(KULDUVOST_DEVICE_ALIGN) unsigned char opaque[KULDUVOST_DEVICE_SIZE];
+} kulduvost_device;
+
+/* ---- What the calls answer */
+typedef struct kulduvost_command_answer {
+    uint16_t code;
+    size_t length; /* bytes of the reply; 0 where refused */
+} kulduvost_command_answer;
+
+typedef struct kulduvost_event_answer {
+    uint16_t code;
+    bool stored; /* false where refused */
+} kulduvost_event_answer;
+
+typedef struct kulduvost_media_answer {
+    uint16_t code;
+    uint32_t stored;  /* lines; 0 where refused */
+    uint32_t dropped; /* lines; 0 where refused */
+} kulduvost_media_answer;
+
+typedef struct kulduvost_line_answer {
+    uint16_t code;
+    uint8_t answer; /* KULDUVOST_CLEAN, _DAMAGED or _UNKNOWN; _UNKNOWN where refused */
+    uint8_t type;   /* of the damage: 0, 1, 2, 3 (injected) or 7; 0 where not damaged */
+} kulduvost_line_answer;
+
+typedef struct kulduvost_event_status_answer {
+    uint32_t bits;    /* bit k is set exactly when log k holds a record */
+    uint32_t waiting; /* the number of logs waiting */
+    uint32_t highest; /* the highest-numbered one waiting, KULDUVOST_LOG_NONE if none */
+} kulduvost_event_status_answer;
+
+/* ---- Calls */
+
+/*
+ * Makes a new device of so many units. Refused: a total outside 1 to 1,023, 0002h. The device beside a refusal is the new one of one
+ * volatile unit: make starts a device, and is never called on one in use.
+ */
+uint16_t kulduvost_make(kulduvost_device *device, uint16_t volatile_units, uint16_t persistent_units);
+
+/*
+ * A command of the mailbox. On Success of length n the first n bytes of the reply buffer are written, the others stay. Refused: reply
+ * room under 2,048 bytes, 0100h; payload over 2,048 bytes, 0016h; opcode not one of the twelve, 0003h; payload length not the command's,
+ * 0016h; then the command's own checks, as listed at its opcode.
+ */
+kulduvost_command_answer kulduvost_command(kulduvost_device *device, uint16_t opcode, const uint8_t *payload, size_t payload_length,
+                                           uint64_t time, uint8_t *reply, size_t reply_room);
+
+/*
+ * Event report. Below eight held, the record is stored last in the log, with bytes 20 and 21 set to the log's next handle and bytes 24
+ * to 31 to the device time. With eight held nothing is stored: the overflow count grows, staying at 65,535, and Success answers not
+ * stored. Refused: record not 128 bytes, 0016h; log above 4, 0002h.
+ */
+kulduvost_event_answer kulduvost_event_report(kulduvost_device *device, uint64_t time, uint8_t log, const uint8_t *record,
+                                              size_t record_length);
+
+/*
+ * Media report: lines from an address on are damaged. The lines that no entry covers form maximal runs; ascending, each run becomes an
+ * entry of that type while fewer than 256 are held; the other runs are dropped, which sets the overflow flag for good. Covered lines keep
+ * their entry. Refused: type not 0, 1, 2 or 7, 0002h; lines 0, 0002h; address not a multiple of 64, 0002h; end past the device, 000Fh.
+ */
+kulduvost_media_answer kulduvost_media_report(kulduvost_device *device, uint64_t time, uint64_t address, uint32_t lines, uint8_t type);
+
+/*
+ * Line test, to be asked before a read of the line is served. Damaged with the type if an entry covers the line; else, with type 0,
+ * Unknown if the overflow flag is set; else Clean. Refused: address not a multiple of 64, 0002h; outside the device, 000Fh; both answer
+ * Unknown with type 0. A line of an accepted report or injection, and not cleared since, is never answered Clean.
+ */
+kulduvost_line_answer kulduvost_line_test(const kulduvost_device *device, uint64_t address);
+
+/* Event status: which logs hold a record. Never refused. */
+kulduvost_event_status_answer kulduvost_event_status(const kulduvost_device *device);
+
+/* Damage total: the sum of entry lengths in lines, worked out at each call; dropped lines are not in it. Never refused. */
+uint64_t kulduvost_damage_total(const kulduvost_device *device);
+
+/* The bytes of a device in the library that is linked: KULDUVOST_DEVICE_SIZE, or header and library are not of the same build. */
+size_t kulduvost_device_size(void);
+
+/* ---- Sizes and offsets of what crosses the boundary: theorems of crate embed (proofs/Header.antt), to which this holds the compiler. */
+KULDUVOST_ASSERT(sizeof(kulduvost_device) == 7648);
+KULDUVOST_ASSERT(KULDUVOST_ALIGN_OF(kulduvost_device) == 8);
+KULDUVOST_ASSERT(sizeof(kulduvost_command_answer) == 16);
+KULDUVOST_ASSERT(offsetof(kulduvost_command_answer, code) == 0);
+KULDUVOST_ASSERT(offsetof(kulduvost_command_answer, length) == 8);
+KULDUVOST_ASSERT(sizeof(kulduvost_event_answer) == 4);
+KULDUVOST_ASSERT(offsetof(kulduvost_event_answer, code) == 0);
+KULDUVOST_ASSERT(offsetof(kulduvost_event_answer, stored) == 2);
+KULDUVOST_ASSERT(sizeof(kulduvost_media_answer) == 12);
+KULDUVOST_ASSERT(offsetof(kulduvost_media_answer, code) == 0);
+KULDUVOST_ASSERT(offsetof(kulduvost_media_answer, stored) == 4);
+KULDUVOST_ASSERT(offsetof(kulduvost_media_answer, dropped) == 8);
+KULDUVOST_ASSERT(sizeof(kulduvost_line_answer) == 4);
+KULDUVOST_ASSERT(offsetof(kulduvost_line_answer, code) == 0);
+KULDUVOST_ASSERT(offsetof(kulduvost_line_answer, answer) == 2);
+KULDUVOST_ASSERT(offsetof(kulduvost_line_answer, type) == 3);
+KULDUVOST_ASSERT(sizeof(kulduvost_event_status_answer) == 12);
+KULDUVOST_ASSERT(offsetof(kulduvost_event_status_answer, bits) == 0);
+KULDUVOST_ASSERT(offsetof(kulduvost_event_status_answer, waiting) == 4);
+KULDUVOST_ASSERT(offsetof(kulduvost_event_status_answer, highest) == 8);
+
+#undef KULDUVOST_ASSERT
+#undef KULDUVOST_ALIGN
+#undef KULDUVOST_ALIGN_OF
+
+#ifdef __cplusplus
+}
+#endif
+#endif

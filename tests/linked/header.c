@@ -1,0 +1,129 @@
+/*
+ * header: the header as a caller uses it, compiled as C11 and as C++11. A device stands in a struct, an array and on the heap; the library
+ * that is linked has devices of the header's size; and every function can be called with the types that the header gives it.
+ * The last line is `N passed, M failed`; exit status 1 if M is not 0.
+ */
+#include "kulduvost.h"
+#include "kulduvost.h" /* a second time: nothing is declared twice */
+#include <stdio.h>
+#include <stdlib.h>
+#include <string.h>
+
+struct guest {
+    char name[3]; /* so that the device is not aligned by chance */
+    kulduvost_device device;
+};
+
+static int passed, failed;
+
+static void expect(bool holds, const char *what) {
+    passed += holds ? 1 : 0;
+    failed += holds ? 0 : 1;
+    if (!holds) {
+        printf("fail: %s\n", what);
+    }
+}
+
+static bool aligned(const void *at) { return (uintptr_t)at % KULDUVOST_DEVICE_ALIGN == 0; }
+
+/* Each function once, with an answer that document 01 states for a new device of one volatile unit. */
+static void calls(kulduvost_device *device) {
+    uint8_t bytes[KULDUVOST_MAILBOX_SIZE] = {0};
+    uint8_t record[KULDUVOST_EVENT_RECORD_SIZE] = {0};
+    expect(kulduvost_make(device, 1, 0) == KULDUVOST_SUCCESS, "make");
+    kulduvost_command_answer done = kulduvost_command(device, KULDUVOST_IDENTIFY, record, 0, 0, bytes, sizeof bytes);
+    expect(done.code == KULDUVOST_SUCCESS && done.length == 69 && memcmp(bytes, "BWFW VERSION 0", 15) == 0, "command");
+    kulduvost_event_answer event = kulduvost_event_report(device, 0, KULDUVOST_LOG_FATAL, record, sizeof record);
+    expect(event.code == KULDUVOST_SUCCESS && event.stored, "event report");
+    kulduvost_media_answer media = kulduvost_media_report(device, 0, 5 * KULDUVOST_LINE_SIZE, 3, 2);
+    expect(media.code == KULDUVOST_SUCCESS && media.stored == 3 && media.dropped == 0, "media report");
+    kulduvost_line_answer line = kulduvost_line_test(device, 6 * KULDUVOST_LINE_SIZE);
+    expect(line.code == KULDUVOST_SUCCESS && line.answer == KULDUVOST_DAMAGED && line.type == 2, "line test, damaged");
+    line = kulduvost_line_test(device, 8 * KULDUVOST_LINE_SIZE);
+    expect(line.code == KULDUVOST_SUCCESS && line.answer == KULDUVOST_CLEAN && line.type == 0, "line test, clean");
+    kulduvost_event_status_answer status = kulduvost_event_status(device);
+    expect(status.bits == 8 && status.waiting == 1 && status.highest == KULDUVOST_LOG_FATAL, "event status");
+    expect(kulduvost_damage_total(device) == 3, "damage total");
+}
+
+/* A new device in the same memory, which is all zero before. */
+static uint16_t made(kulduvost_device *device, uint16_t volatile_units, uint16_t persistent_units) {
+    memset(device, 0, sizeof *device);
+    return kulduvost_make(device, volatile_units, persistent_units);
+}
+
+/* ---- The sizes and return numbers that the header states, by the refusals that stand at them */
+static void units_and_lines(kulduvost_device *device) {
+    uint64_t end = (uint64_t)KULDUVOST_UNITS_MAX * KULDUVOST_UNIT_LINES * KULDUVOST_LINE_SIZE;
+    expect(made(device, 1, KULDUVOST_UNITS_MAX) == KULDUVOST_INVALID_INPUT, "a unit too many");
+    expect(made(device, 0, KULDUVOST_UNITS_MAX) == KULDUVOST_SUCCESS, "the most units");
+    expect(kulduvost_line_test(device, end - KULDUVOST_LINE_SIZE).code == KULDUVOST_SUCCESS, "the last line");
+    expect(kulduvost_line_test(device, end - 1).code == KULDUVOST_INVALID_INPUT, "an unaligned address");
+    kulduvost_line_answer line = kulduvost_line_test(device, end);
+    expect(line.code == KULDUVOST_INVALID_PHYSICAL_ADDRESS && line.answer == KULDUVOST_UNKNOWN, "the line after the last");
+}
+
+static void mailbox(kulduvost_device *device) {
+    static uint8_t payload[KULDUVOST_MAILBOX_SIZE + 1], reply[KULDUVOST_MAILBOX_SIZE];
+    uint8_t clear[8] = {KULDUVOST_LOG_INFO, 0, 1, 0, 0, 0, 1, 0};
+    made(device, 1, 0);
+    expect(kulduvost_command(device, 0x7777, payload, sizeof payload, 0, reply, sizeof reply - 1).code == KULDUVOST_REPLY_BUFFER_TOO_SMALL,
+           "a reply buffer that is too small");
+    expect(kulduvost_command(device, 0x7777, payload, sizeof payload, 0, reply, sizeof reply).code == KULDUVOST_INVALID_PAYLOAD_LENGTH,
+           "a payload that is too long");
+    expect(kulduvost_command(device, 0x7777, payload, sizeof payload - 1, 0, reply, sizeof reply).code == KULDUVOST_UNSUPPORTED,
+           "an opcode that is not one of the twelve");
+    expect(kulduvost_command(device, KULDUVOST_GET_LOG, payload, 24, 0, reply, sizeof reply).code == KULDUVOST_INVALID_LOG,
+           "another log identifier");
+    expect(kulduvost_command(device, KULDUVOST_CLEAR_EVENT_RECORDS, clear, sizeof clear, 0, reply, sizeof reply).code ==
+               KULDUVOST_INVALID_HANDLE,
+           "a handle of no record");
+}
+
+static void event_logs(kulduvost_device *device) {
+    uint8_t record[KULDUVOST_EVENT_RECORD_SIZE + 1] = {0};
+    const size_t size = KULDUVOST_EVENT_RECORD_SIZE;
+    made(device, 1, 0);
+    expect(kulduvost_event_report(device, 0, 0, record, size + 1).code == KULDUVOST_INVALID_PAYLOAD_LENGTH, "a record that is too long");
+    expect(kulduvost_event_report(device, 0, KULDUVOST_EVENT_LOGS, record, size).code == KULDUVOST_INVALID_INPUT, "a log too many");
+    for (int i = 0; i < KULDUVOST_EVENT_LOG_RECORDS; i++) {
+        expect(kulduvost_event_report(device, 0, KULDUVOST_EVENT_LOGS - 1, record, size).stored, "a log with room");
+    }
+    kulduvost_event_answer full = kulduvost_event_report(device, 0, KULDUVOST_EVENT_LOGS - 1, record, size);
+    expect(full.code == KULDUVOST_SUCCESS && !full.stored, "a full log");
+}
+
+static void poison_entries(kulduvost_device *device) {
+    static uint8_t payload[8], reply[KULDUVOST_MAILBOX_SIZE];
+    uint32_t stored = 0;
+    made(device, 1, 0);
+    for (uint32_t i = 1; i <= KULDUVOST_POISON_ENTRIES; i++) {
+        stored += kulduvost_media_report(device, 0, (uint64_t)2 * i * KULDUVOST_LINE_SIZE, 1, 0).stored;
+    }
+    expect(stored == KULDUVOST_POISON_ENTRIES, "a poison list with room");
+    expect(kulduvost_command(device, KULDUVOST_INJECT_POISON, payload, sizeof payload, 0, reply, sizeof reply).code ==
+               KULDUVOST_INJECT_POISON_LIMIT,
+           "a full poison list");
+}
+
+int main(void) {
+    static struct guest guests[3];
+    kulduvost_device *heap = (kulduvost_device *)calloc(2, sizeof(kulduvost_device));
+    expect(kulduvost_device_size() == KULDUVOST_DEVICE_SIZE, "the library's devices have the header's size");
+    expect(sizeof(kulduvost_device[2]) == 2 * KULDUVOST_DEVICE_SIZE, "no byte between the devices of an array");
+    for (size_t i = 0; i < 3; i++) {
+        expect(aligned(&guests[i].device), "a device in a struct is aligned");
+        calls(&guests[i].device);
+    }
+    expect(heap != NULL && aligned(heap), "a device on the heap is aligned");
+    if (heap != NULL) {
+        calls(&heap[1]);
+        units_and_lines(&heap[0]);
+        mailbox(&heap[0]);
+        event_logs(&heap[0]);
+        poison_entries(&heap[0]);
+    }
+    free(heap);
+    printf("%d passed, %d failed\n", passed, failed);
+    return failed == 0 ? 0 : 1;
+}

@@ -1,0 +1,358 @@
+/*
+ * measure              what each call of the library costs, as a Markdown table: nanoseconds (the least of many runs) and the deepest
+ *                      byte of stack that it writes
+ * measure KIND TIMES   makes the calls of one kind that many times, for callgrind to count; KIND is a name of the table
+ *
+ * Beside the line test stands the same test in plain C, over the same arrays of the same device. For that alone this program knows where
+ * the poison list lies in a device (crates/embed/proofs/Header.antt); a caller has no business there.
+ */
+#define _DEFAULT_SOURCE
+#include "kulduvost.h"
+#include <stdio.h>
+#include <stdlib.h>
+#include <string.h>
+#include <time.h>
+#include <ucontext.h>
+
+enum { ROUNDS = 15 };
+
+/* Entries are of one line each and stand this many bytes apart, the first one at 0. */
+#define GAP ((uint64_t)KULDUVOST_LINE_SIZE * KULDUVOST_UNIT_LINES / KULDUVOST_POISON_ENTRIES)
+
+static kulduvost_device *device;        /* on which the calls are made */
+static kulduvost_device before;         /* what it is put back to before each run */
+static uint8_t payload[72], reply[KULDUVOST_MAILBOX_SIZE], record[KULDUVOST_EVENT_RECORD_SIZE];
+static volatile uint64_t sink;          /* so that no answer is thrown away */
+
+/* ---- The line test in plain C */
+static const uint8_t *list_of(const kulduvost_device *d) { return (const uint8_t *)d + 5320; }
+static const uint32_t *starts_of(const kulduvost_device *d) { return (const uint32_t *)(const void *)list_of(d); }
+static const uint32_t *lengths_of(const kulduvost_device *d) { return starts_of(d) + 256; }
+static const uint8_t *types_of(const kulduvost_device *d) { return list_of(d) + 2048; }
+static size_t count_of(const kulduvost_device *d) { return *(const size_t *)(const void *)(list_of(d) + 2304); }
+static bool overflow_of(const kulduvost_device *d) { return list_of(d)[2312] != 0; }
+
+static kulduvost_line_answer uncovered(const kulduvost_device *d) {
+    return (kulduvost_line_answer){KULDUVOST_SUCCESS, overflow_of(d) ? KULDUVOST_UNKNOWN : KULDUVOST_CLEAN, 0};
+}
+
+static kulduvost_line_answer covered(const kulduvost_device *d, size_t i) {
+    return (kulduvost_line_answer){KULDUVOST_SUCCESS, KULDUVOST_DAMAGED, types_of(d)[i]};
+}
+
+static kulduvost_line_answer refused(uint16_t code) { return (kulduvost_line_answer){code, KULDUVOST_UNKNOWN, 0}; }
+
+/* binary search with an if */
+__attribute__((noinline)) static kulduvost_line_answer plain_if(const kulduvost_device *d, uint64_t address) {
+    if (address % KULDUVOST_LINE_SIZE != 0) {
+        return refused(KULDUVOST_INVALID_INPUT);
+    }
+    if (address / KULDUVOST_LINE_SIZE >= KULDUVOST_UNIT_LINES) {
+        return refused(KULDUVOST_INVALID_PHYSICAL_ADDRESS);
+    }
+    uint32_t line = (uint32_t)(address / KULDUVOST_LINE_SIZE);
+    size_t low = 0, high = count_of(d);
+    while (low < high) {
+        size_t middle = low + (high - low) / 2;
+        if (starts_of(d)[middle] <= line) {
+            low = middle + 1;
+        } else {
+            high = middle;
+        }
+    }
+    bool found = low > 0 && line - starts_of(d)[low - 1] < lengths_of(d)[low - 1];
+    return found ? covered(d, low - 1) : uncovered(d);
+}
+
+/* the half taken by arithmetic, without a jump on what was compared */
+__attribute__((noinline)) static kulduvost_line_answer plain_arithmetic(const kulduvost_device *d, uint64_t address) {
+    if (address % KULDUVOST_LINE_SIZE != 0) {
+        return refused(KULDUVOST_INVALID_INPUT);
+    }
+    if (address / KULDUVOST_LINE_SIZE >= KULDUVOST_UNIT_LINES) {
+        return refused(KULDUVOST_INVALID_PHYSICAL_ADDRESS);
+    }
+    uint32_t line = (uint32_t)(address / KULDUVOST_LINE_SIZE);
+    size_t at = 0, size = count_of(d);
+    while (size > 1) {
+        size_t half = size / 2;
+        size_t upper = starts_of(d)[at + half] <= line;
+        __asm__("" : "+r"(upper)); /* clang would make it a jump */
+        at += half * upper;
+        size -= half;
+    }
+    bool found = size > 0 && line >= starts_of(d)[at] && line - starts_of(d)[at] < lengths_of(d)[at];
+    return found ? covered(d, at) : uncovered(d);
+}
+
+/* ---- The calls */
+static void put(uint8_t *to, uint64_t number, size_t bytes) {
+    for (size_t i = 0; i < bytes; i++) {
+        to[i] = (uint8_t)(number >> 8 * i);
+    }
+}
+
+static void command(uint16_t opcode, size_t length) {
+    sink = kulduvost_command(device, opcode, payload, length, 1000, reply, sizeof reply).length;
+}
+
+/* A random line of the device, never the same sequence twice: a repeated one would be learned by the processor's branch prediction. The
+ * compiler is kept from knowing that the address is aligned, which the plain tests would gain by. */
+static uint64_t random_line(void) {
+    static uint64_t state = 12345;
+    state = state * 6364136223846793005u + 1442695040888963407u;
+    uint64_t address = (state >> 42) * KULDUVOST_LINE_SIZE;
+    __asm__ volatile("" : "+r"(address));
+    return address;
+}
+
+static uint64_t random_entry(void) { return random_line() / GAP * GAP; }
+static uint64_t random_between(void) { return random_line() | KULDUVOST_LINE_SIZE; }
+
+static void nothing(void) { sink = random_line(); }
+static void line_test(void) { sink = kulduvost_line_test(device, random_line()).answer; }
+static void line_test_if(void) { sink = plain_if(device, random_line()).answer; }
+static void line_test_arithmetic(void) { sink = plain_arithmetic(device, random_line()).answer; }
+static void event_status(void) { sink = kulduvost_event_status(device).bits; }
+static void damage_total(void) { sink = kulduvost_damage_total(device); }
+static void get_timestamp(void) { command(KULDUVOST_GET_TIMESTAMP, 0); }
+static void set_timestamp(void) { command(KULDUVOST_SET_TIMESTAMP, 8); }
+static void get_policy(void) { command(KULDUVOST_GET_EVENT_INTERRUPT_POLICY, 0); }
+static void set_policy(void) { command(KULDUVOST_SET_EVENT_INTERRUPT_POLICY, 5); }
+static void identify(void) { command(KULDUVOST_IDENTIFY, 0); }
+static void get_supported_logs(void) { command(KULDUVOST_GET_SUPPORTED_LOGS, 0); }
+static void unknown_opcode(void) { command(0x7777, 0); }
+
+static void get_log(void) {
+    static const uint8_t whole[24] = {0x0d, 0xa9, 0xc0, 0xb5, 0xbf, 0x41, 0x4b, 0x78, 0x8f, 0x79, 0x96, 0xb1,
+                                      0x62, 0x3b, 0x3f, 0x17, 0,    0,    0,    0,    48,   0,    0,    0};
+    memcpy(payload, whole, sizeof whole);
+    command(KULDUVOST_GET_LOG, sizeof whole);
+}
+
+static void get_poison_list(void) {
+    put(payload, 0, 8);
+    put(payload + 8, KULDUVOST_UNIT_LINES, 8);
+    command(KULDUVOST_GET_POISON_LIST, 16);
+}
+
+/* of a line between two entries, so that the list is again as it was */
+static void inject_and_clear(void) {
+    put(payload, random_between(), 8);
+    command(KULDUVOST_INJECT_POISON, 8);
+    command(KULDUVOST_CLEAR_POISON, 72);
+}
+
+static void get_event_records(void) {
+    payload[0] = KULDUVOST_LOG_INFO;
+    command(KULDUVOST_GET_EVENT_RECORDS, 1);
+}
+
+/* of the oldest record of log Info, which has handle 1 */
+static void clear_event_records(void) {
+    static const uint8_t oldest[8] = {KULDUVOST_LOG_INFO, 0, 1, 0, 0, 0, 1, 0};
+    memcpy(payload, oldest, sizeof oldest);
+    command(KULDUVOST_CLEAR_EVENT_RECORDS, sizeof oldest);
+}
+
+static void event_report(uint8_t log) { sink = kulduvost_event_report(device, 1000, log, record, sizeof record).stored; }
+static void event_full(void) { event_report(KULDUVOST_LOG_INFO); }
+static void event_room(void) { event_report(KULDUVOST_LOG_WARNING); }
+
+static void media_report(uint64_t address) { sink = kulduvost_media_report(device, 1000, address, 1, 1).stored; }
+static void media_covered(void) { media_report(random_entry()); }
+static void media_uncovered(void) { media_report(random_between()); }
+static void make(void) { sink = kulduvost_make(device, 1, 0); }
+
+/* ---- The kinds: a call, the entries held before it, and how many calls can be made before the device must be put back */
+enum { MANY = 4096, EMPTY = UINT16_MAX /* entries: no device yet, all zero */ };
+
+static const struct kind {
+    const char *name;
+    uint32_t entries;
+    uint32_t calls;
+    void (*call)(void);
+} kinds[] = {
+    {"the loop alone", 0, MANY, nothing},
+    {"line test, 0 entries", 0, MANY, line_test},
+    {"plain C with `if`, 0 entries", 0, MANY, line_test_if},
+    {"plain C without a jump, 0 entries", 0, MANY, line_test_arithmetic},
+    {"line test, 1 entry", 1, MANY, line_test},
+    {"plain C with `if`, 1 entry", 1, MANY, line_test_if},
+    {"plain C without a jump, 1 entry", 1, MANY, line_test_arithmetic},
+    {"line test, 256 entries", 256, MANY, line_test},
+    {"plain C with `if`, 256 entries", 256, MANY, line_test_if},
+    {"plain C without a jump, 256 entries", 256, MANY, line_test_arithmetic},
+    {"event status", 255, MANY, event_status},
+    {"damage total, 0 entries", 0, MANY, damage_total},
+    {"damage total, 256 entries", 256, MANY, damage_total},
+    {"Get Timestamp", 255, MANY, get_timestamp},
+    {"Set Timestamp", 255, MANY, set_timestamp},
+    {"Get Event Interrupt Policy", 255, MANY, get_policy},
+    {"Set Event Interrupt Policy", 255, MANY, set_policy},
+    {"Identify", 255, MANY, identify},
+    {"Get Supported Logs", 255, MANY, get_supported_logs},
+    {"Get Log, all of it", 255, MANY, get_log},
+    {"unknown opcode", 255, MANY, unknown_opcode},
+    {"Get Poison List, 126 records", 126, MANY, get_poison_list},
+    {"Inject and Clear Poison (two calls), 0 entries", 0, MANY, inject_and_clear},
+    {"Inject and Clear Poison (two calls), 255 entries", 255, MANY, inject_and_clear},
+    {"Get Event Records, 8 held", 255, MANY, get_event_records},
+    {"Clear Event Records, the oldest of 8", 255, 1, clear_event_records},
+    {"event report to a full log", 255, MANY, event_full},
+    {"event report to a log with room", 255, KULDUVOST_EVENT_LOG_RECORDS, event_room},
+    {"media report of a covered line, 256 entries", 256, MANY, media_covered},
+    {"media report of a new line, 0 entries", 0, 1, media_uncovered},
+    {"media report of a new line, 255 entries", 255, 1, media_uncovered},
+    {"media report, dropped", 256, MANY, media_uncovered},
+    {"make", EMPTY, 1, make},
+};
+enum { KINDS = sizeof kinds / sizeof *kinds };
+
+static bool same(kulduvost_line_answer a, kulduvost_line_answer b) { return a.code == b.code && a.answer == b.answer && a.type == b.type; }
+
+/* The plain tests answer what the library answers: otherwise they read other arrays, and their times tell nothing. */
+static bool answers_agree(void) {
+    for (int i = 0; i < MANY; i++) {
+        uint64_t address = i % 2 == 0 ? random_entry() : random_line();
+        kulduvost_line_answer told = kulduvost_line_test(device, address);
+        if (!same(told, plain_if(device, address)) || !same(told, plain_arithmetic(device, address))) {
+            return false;
+        }
+    }
+    return true;
+}
+
+/* The entries; eight records in log Info, the first with handle 1; none in the other logs. */
+static void prepare(const struct kind *kind) {
+    memset(device, 0, sizeof *device);
+    if (kind->entries != EMPTY) {
+        kulduvost_make(device, 1, 0);
+        for (uint32_t i = 0; i < kind->entries; i++) {
+            media_report(i * GAP);
+        }
+        for (int i = 0; i < KULDUVOST_EVENT_LOG_RECORDS; i++) {
+            event_report(KULDUVOST_LOG_INFO);
+        }
+    }
+    if (kind->entries != EMPTY && !answers_agree()) {
+        fputs("measure: the poison list lies elsewhere in a device\n", stderr);
+        exit(1);
+    }
+    memcpy(&before, device, sizeof before);
+    memset(payload, 0, sizeof payload);
+}
+
+static void put_back(void) { memcpy(device, &before, sizeof *device); }
+
+/* ---- Time: the least of many runs, each from the same device, without what the clock itself takes */
+static double now(void) {
+    struct timespec t;
+    clock_gettime(CLOCK_MONOTONIC, &t);
+    return (double)t.tv_sec * 1e9 + (double)t.tv_nsec;
+}
+
+static double clock_alone(void) {
+    double least = 1e9;
+    for (int i = 0; i < 10000; i++) {
+        double from = now(), took = now() - from;
+        least = took < least ? took : least;
+    }
+    return least;
+}
+
+static double least_of_runs(const struct kind *kind, int runs, double overhead) {
+    double least = 1e18;
+    for (int run = 0; run < runs; run++) {
+        put_back();
+        double from = now();
+        for (uint32_t i = 0; i < kind->calls; i++) {
+            kind->call();
+        }
+        double took = (now() - from - overhead) / kind->calls;
+        least = took < least ? took : least;
+    }
+    return least;
+}
+
+/* ---- Stack: the call runs on a stack of its own that is filled with a pattern; the deepest byte changed tells */
+enum { STACK = 128 * 1024 };
+static uint8_t stack[STACK] __attribute__((aligned(16)));
+static ucontext_t here, there;
+static void (*on_stack)(void);
+static const uint8_t *top;
+
+static uint8_t paint(size_t i) { return (uint8_t)(i * 167 + (i >> 8) * 13 + 90); }
+
+static void enter(void) {
+    top = __builtin_frame_address(0);
+    on_stack();
+}
+
+static size_t deepest(void (*call)(void)) {
+    for (size_t i = 0; i < STACK; i++) {
+        stack[i] = paint(i);
+    }
+    on_stack = call;
+    getcontext(&there);
+    there.uc_stack.ss_sp = stack;
+    there.uc_stack.ss_size = STACK;
+    there.uc_link = &here;
+    makecontext(&there, enter, 0);
+    swapcontext(&here, &there);
+    size_t i = 0;
+    while (i < STACK && stack[i] == paint(i)) {
+        i++;
+    }
+    return (size_t)(top - (stack + i));
+}
+
+/* ---- The two ways to run it */
+/* All kinds in turn, several rounds: what else the machine does meanwhile hits all of them alike. */
+static void table(void) {
+    static double least[KINDS];
+    static size_t depth[KINDS];
+    double overhead = clock_alone();
+    for (int round = 0; round < ROUNDS; round++) {
+        for (size_t k = 0; k < KINDS; k++) {
+            prepare(&kinds[k]);
+            depth[k] = deepest(kinds[k].call); /* the first round also resolves what the linker left open */
+            double took = least_of_runs(&kinds[k], kinds[k].calls == MANY ? 10 : 2000, overhead);
+            least[k] = round == 0 || took < least[k] ? took : least[k];
+        }
+    }
+    printf("| Call | ns | stack, bytes |\n|---|---|---|\n");
+    for (size_t k = 0; k < KINDS; k++) {
+        printf("| %s | %.1f | %zu |\n", kinds[k].name, least[k], depth[k] - depth[0]);
+    }
+}
+
+static int one_kind(const char *name, unsigned long times) {
+    for (size_t k = 0; k < KINDS; k++) {
+        if (strcmp(kinds[k].name, name) == 0) {
+            prepare(&kinds[k]);
+            for (unsigned long n = 0; n < times; n++) {
+                if (n % kinds[k].calls == 0) {
+                    put_back();
+                }
+                kinds[k].call();
+            }
+            return 0;
+        }
+    }
+    fprintf(stderr, "measure: there is no kind `%s`\n", name);
+    return 1;
+}
+
+int main(int count, char **words) {
+    device = calloc(1, sizeof *device);
+    if (device == NULL || (count != 1 && count != 3)) {
+        fputs("measure [KIND TIMES]\n", stderr);
+        return 2;
+    }
+    if (count == 3) {
+        return one_kind(words[1], strtoul(words[2], NULL, 10));
+    }
+    table();
+    return 0;
+}

@@ -1,0 +1,293 @@
+/*
+ * programs bench | programs probe: the program of document 01 ("Bench program") or of document 10, over the library: records on standard
+ * input, a line for each on standard output. Of document 10 the records of the device (NW, CM, EV, MD, LT, ES, DT); those of the host's
+ * library are unknown marks here.
+ *
+ * What the formats do not show is checked here after each call, and ends the program by a signal: no byte beside a lent buffer or the
+ * device is written, no byte of a payload or record is, and a call that is refused or only reads leaves every byte of the device.
+ */
+#include "kulduvost.h"
+#include "lent.h"
+
+/* ---- The formats: which records there are, and how many bytes each has */
+struct form {
+    const char *mark;
+    size_t fixed;     /* bytes with the mark, without the payload or record that a length in it tells of */
+    size_t length_at; /* where that length lies, in two bytes; 0: the record has none */
+};
+
+struct format {
+    const char *name;
+    const struct form *forms; /* the last one has no mark */
+    size_t most;              /* what a length or room in a record may be at most */
+    size_t room_at;           /* where a command's room lies; 0: it has none */
+};
+
+static const struct form bench_forms[] = {{"NW", 6, 0}, {"CM", 14, 12}, {"EV", 139, 0}, {"MD", 23, 0}, {"LT", 10, 0}, {NULL, 0, 0}};
+static const struct form probe_forms[] = {{"NW", 6, 0},  {"CM", 17, 15}, {"EV", 13, 11}, {"MD", 23, 0},
+                                          {"LT", 10, 0}, {"ES", 2, 0},   {"DT", 2, 0},   {NULL, 0, 0}};
+static const struct format bench = {"bench", bench_forms, 2048, 0};
+static const struct format probe = {"probe", probe_forms, 4096, 12};
+
+static uint64_t number(const uint8_t *from, size_t bytes) {
+    uint64_t n = 0;
+    while (bytes-- > 0) {
+        n = n << 8 | from[bytes];
+    }
+    return n;
+}
+
+static bool marked(const uint8_t *record, const char *mark) { return memcmp(record, mark, 2) == 0; }
+
+static const struct form *form_of(const struct format *format, const uint8_t *record) {
+    const struct form *form = format->forms;
+    while (form->mark != NULL && !marked(record, form->mark)) {
+        form++;
+    }
+    return form->mark == NULL ? NULL : form;
+}
+
+/* The bytes of the record at the front of `left` bytes; 0 where it is bad: an unknown mark, a cut record, a size over its limit. */
+static size_t record_size(const struct format *format, const uint8_t *record, size_t left) {
+    const struct form *form = left < 2 ? NULL : form_of(format, record);
+    if (form == NULL || left < form->fixed) {
+        return 0;
+    }
+    size_t length = form->length_at == 0 ? 0 : number(record + form->length_at, 2);
+    size_t room = format->room_at != 0 && marked(record, "CM") ? number(record + format->room_at, 2) : 0;
+    if (length > format->most || room > format->most || left - form->fixed < length) {
+        return 0;
+    }
+    return form->fixed + length;
+}
+
+/* ---- The device, and what is looked at around each call */
+struct tested {
+    const struct format *format;
+    struct lent device;
+    uint8_t before[KULDUVOST_DEVICE_SIZE];
+};
+
+static kulduvost_device *device_of(struct tested *tested) { return (kulduvost_device *)(void *)tested->device.bytes; }
+
+static void before_call(struct tested *tested) { memcpy(tested->before, tested->device.bytes, sizeof tested->before); }
+
+/* `kept`: the call was refused or only reads, so that the device must be as it was. */
+static void after_call(struct tested *tested, bool kept) {
+    lent_check(tested->device);
+    if (kept && memcmp(tested->before, tested->device.bytes, sizeof tested->before) != 0) {
+        stop("the device was changed by a call that was refused or only reads");
+    }
+}
+
+/* A payload or record: a buffer of its own with exactly its bytes. */
+static struct lent lend(const uint8_t *from, size_t length) {
+    struct lent lent = lent_new(length);
+    memcpy(lent.bytes, from, length);
+    return lent;
+}
+
+static void take_back(struct lent lent, const uint8_t *from) {
+    lent_check(lent);
+    if (memcmp(lent.bytes, from, lent.length) != 0) {
+        stop("a payload or record was written");
+    }
+    lent_free(lent);
+}
+
+/* ---- Lines */
+static void put_hex(const uint8_t *bytes, size_t length) {
+    for (size_t i = 0; i < length; i++) {
+        putchar("0123456789abcdef"[bytes[i] >> 4]);
+        putchar("0123456789abcdef"[bytes[i] & 15]);
+    }
+}
+
+static bool all_are(const uint8_t *bytes, size_t length, uint8_t fill) {
+    for (size_t i = 0; i < length; i++) {
+        if (bytes[i] != fill) {
+            return false;
+        }
+    }
+    return true;
+}
+
+/* bench: the length and, if there are any, the bytes. probe: the length, the bytes or `-`, and whether the others are still the fill. */
+static void put_reply(const struct tested *tested, kulduvost_command_answer done, struct lent reply, uint8_t fill) {
+    if (done.length > reply.length) {
+        stop("a reply is longer than its buffer");
+    }
+    bool kept = all_are(reply.bytes + done.length, reply.length - done.length, fill);
+    printf("CM %u %zu", done.code, done.length);
+    if (tested->format == &bench) {
+        if (!kept) {
+            stop("a byte after the reply was written");
+        }
+        fputs(done.length > 0 ? " " : "", stdout);
+        put_hex(reply.bytes, done.length);
+        putchar('\n');
+    } else {
+        fputs(done.length > 0 ? " " : " -", stdout);
+        put_hex(reply.bytes, done.length);
+        printf(" %d\n", kept);
+    }
+}
+
+/* bench prints of a refused device-side call the mark and code only. */
+static bool only_code(const struct tested *tested, const char *mark, uint16_t code) {
+    if (tested->format == &bench && code != KULDUVOST_SUCCESS) {
+        printf("%s %u\n", mark, code);
+        return true;
+    }
+    return false;
+}
+
+/* ---- Records: each makes its call and prints its line */
+/* A make finds memory that is all zero (kulduvost.h). False where bench stops: "A refused NW prints and stops". */
+static bool serve_make(struct tested *tested, const uint8_t *record) {
+    memset(tested->device.bytes, 0, tested->device.length);
+    uint16_t code = kulduvost_make(device_of(tested), (uint16_t)number(record + 2, 2), (uint16_t)number(record + 4, 2));
+    after_call(tested, false);
+    printf("NW %u\n", code);
+    return tested->format == &probe || code == KULDUVOST_SUCCESS;
+}
+
+/* bench carries no room and fill: the least room, and a fill that is not the byte of an unused reply. */
+static void serve_command(struct tested *tested, const uint8_t *record, size_t size) {
+    size_t room = tested->format == &bench ? KULDUVOST_MAILBOX_SIZE : number(record + 12, 2);
+    uint8_t fill = tested->format == &bench ? 0xc3 : record[14];
+    const uint8_t *payload_at = record + (tested->format == &bench ? 14 : 17);
+    struct lent payload = lend(payload_at, size - (size_t)(payload_at - record));
+    struct lent reply = lent_new(room);
+    memset(reply.bytes, fill, room);
+    before_call(tested);
+    kulduvost_command_answer done = kulduvost_command(device_of(tested), (uint16_t)number(record + 10, 2), payload.bytes, payload.length,
+                                                      number(record + 2, 8), reply.bytes, reply.length);
+    after_call(tested, done.code != KULDUVOST_SUCCESS);
+    take_back(payload, payload_at);
+    lent_check(reply);
+    put_reply(tested, done, reply, fill);
+    lent_free(reply);
+}
+
+static void serve_event(struct tested *tested, const uint8_t *record, size_t size) {
+    const uint8_t *bytes_at = record + (tested->format == &bench ? 11 : 13);
+    struct lent bytes = lend(bytes_at, size - (size_t)(bytes_at - record));
+    before_call(tested);
+    kulduvost_event_answer told = kulduvost_event_report(device_of(tested), number(record + 2, 8), record[10], bytes.bytes, bytes.length);
+    after_call(tested, told.code != KULDUVOST_SUCCESS);
+    take_back(bytes, bytes_at);
+    if (!only_code(tested, "EV", told.code)) {
+        printf("EV %u %d\n", told.code, told.stored);
+    }
+}
+
+static void serve_media(struct tested *tested, const uint8_t *record) {
+    before_call(tested);
+    kulduvost_media_answer told = kulduvost_media_report(device_of(tested), number(record + 2, 8), number(record + 10, 8),
+                                                         (uint32_t)number(record + 18, 4), record[22]);
+    after_call(tested, told.code != KULDUVOST_SUCCESS);
+    if (!only_code(tested, "MD", told.code)) {
+        printf("MD %u %u %u\n", told.code, told.stored, told.dropped);
+    }
+}
+
+static void serve_line(struct tested *tested, const uint8_t *record) {
+    before_call(tested);
+    kulduvost_line_answer told = kulduvost_line_test(device_of(tested), number(record + 2, 8));
+    after_call(tested, true);
+    if (!only_code(tested, "LT", told.code)) {
+        printf("LT %u %u %u\n", told.code, told.answer, told.type);
+    }
+}
+
+static void serve_status(struct tested *tested) {
+    before_call(tested);
+    kulduvost_event_status_answer told = kulduvost_event_status(device_of(tested));
+    after_call(tested, true);
+    printf("ES %u %u %u\n", told.bits, told.waiting, told.highest);
+}
+
+static void serve_total(struct tested *tested) {
+    before_call(tested);
+    uint64_t total = kulduvost_damage_total(device_of(tested));
+    after_call(tested, true);
+    printf("DT %llu\n", (unsigned long long)total);
+}
+
+/* False where nothing more is to be served. */
+static bool serve(struct tested *tested, const uint8_t *record, size_t size) {
+    if (marked(record, "NW")) {
+        return serve_make(tested, record);
+    }
+    if (marked(record, "CM")) {
+        serve_command(tested, record, size);
+    } else if (marked(record, "EV")) {
+        serve_event(tested, record, size);
+    } else if (marked(record, "MD")) {
+        serve_media(tested, record);
+    } else if (marked(record, "LT")) {
+        serve_line(tested, record);
+    } else if (marked(record, "ES")) {
+        serve_status(tested);
+    } else {
+        serve_total(tested);
+    }
+    return true;
+}
+
+/* ---- The run */
+/* "a first mark other than NW, a later NW" is bad in bench; in probe the first record must be a make. */
+static bool may_stand(const struct format *format, const uint8_t *record, bool first) {
+    return marked(record, "NW") ? first || format == &probe : !first;
+}
+
+static void run(struct tested *tested, const uint8_t *input, size_t length) {
+    size_t size;
+    for (size_t at = 0; at < length; at += size) {
+        size = record_size(tested->format, input + at, length - at);
+        if (size == 0 || !may_stand(tested->format, input + at, at == 0)) {
+            printf("BAD %zu\n", at);
+            return;
+        }
+        if (!serve(tested, input + at, size)) {
+            return;
+        }
+    }
+}
+
+/* All of standard input, in a block of exactly its length. */
+static uint8_t *all_input(size_t *length) {
+    size_t room = 1u << 16, used = 0, got;
+    uint8_t *bytes = malloc(room);
+    while (bytes != NULL && (got = fread(bytes + used, 1, room - used, stdin)) > 0) {
+        used += got;
+        if (used == room) {
+            bytes = realloc(bytes, room *= 2);
+        }
+    }
+    bytes = realloc(bytes, used == 0 ? 1 : used);
+    if (bytes == NULL || ferror(stdin)) {
+        stop("standard input cannot be read");
+    }
+    *length = used;
+    return bytes;
+}
+
+int main(int count, char **words) {
+    struct tested tested = {.format = NULL};
+    if (count == 2) {
+        tested.format = strcmp(words[1], bench.name) == 0 ? &bench : strcmp(words[1], probe.name) == 0 ? &probe : NULL;
+    }
+    if (tested.format == NULL) {
+        fputs("programs bench|probe < STREAM\n", stderr);
+        return 2;
+    }
+    size_t length;
+    uint8_t *input = all_input(&length);
+    tested.device = lent_new(KULDUVOST_DEVICE_SIZE);
+    run(&tested, input, length);
+    lent_free(tested.device);
+    free(input);
+    return fflush(stdout) == 0 ? 0 : 1;
+}
