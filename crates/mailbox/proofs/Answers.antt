@@ -13,7 +13,6 @@ use Rattle.events.specs.declared.log.Log.{Log}
 use Rattle.mailbox.specs.declared.clock.Clock.{Clock}
 use Rattle.mailbox.specs.declared.device.Device.{Device}
 use Rattle.mailbox.specs.declared.device.Answer.{Answer}
-use Rattle.wire.specs.Returns.{unsupported}
 use Rattle.mailbox.specs.Numbers.{unit-lines}
 use Rattle.mailbox.specs.State.{DeviceState, ValidDevice, state-of}
 use Rattle.mailbox.specs.Outcome.{Reply, Outcome, reads, changes, refused}

@@ -4,7 +4,6 @@ use Prim.Native.Nat.{_<_, _-_}
 use native.Mathlib.Omega.{arith}
 use borrow.Author.Needs.{needs}
 use lib.ListN.{length, length-map}
-use Rattle.mailbox.specs.ByParts.{of-list, of-log, log-named}
 use Rattle.mailbox.proofs.PartAnswers.{list-parts-answered, log-parts-answered, settings-parts-answered}
 use Rattle.mailbox.proofs.device.Device.command.Statement.{statement}
 use Rattle.mailbox.proofs.device.Device.command.Tie as tie

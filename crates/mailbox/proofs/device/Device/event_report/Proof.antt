@@ -4,7 +4,6 @@ use Prim.Native.Nat.{_-_}
 use native.Mathlib.Omega.{arith}
 use borrow.Author.Needs.{needs}
 use lib.ListN.{length, length-map}
-use Rattle.mailbox.specs.ByParts.{log-at}
 use Rattle.mailbox.proofs.PartAnswers.{event-parts-done}
 use Rattle.mailbox.proofs.device.Device.event_report.Statement.{statement}
 use Rattle.mailbox.proofs.device.Device.event_report.Tie as tie
