@@ -1,5 +1,5 @@
 -- The laws of crate `embed`.
-pub mod Loan
+pub mod Steps
 pub mod Indexed
 pub mod Parts
 pub mod LineLaws

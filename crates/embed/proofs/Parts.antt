@@ -1,21 +1,18 @@
 -- What the printed walks (`tools/walk`) cite: of each function that is handed parts of a device, that the parts of a valid device meet what it requires (`-asks`), and that what it ensures of
 -- the parts is what the call through the pointer ensures of the device (`-gives`). Assumes nothing.
-use mathlib.Core.Path.{_≡_, refl, sym, ap, subst, _∙_}
-use mathlib.Core.Bool.{Bool, true, false, not}
+use mathlib.Core.Path.{_≡_, _∙_}
+use mathlib.Core.Bool.{true, false}
 use mathlib.Core.List.{List, _∷_, []}
 use Prim.Native.Nat.{ℕ, _+_, _*_, _≤_, _<_}
 use native.Mathlib.Omega.{arith}
-use lib.Dec.{T as Holds}
 use lib.ListN.{length, length-map, getD}
 use denote.Laws.{Is}
 use denote.Struct.Laws as LL
-use Rattle.poison.specs.declared.list.PoisonList.{PoisonList}
 use Rattle.poison.specs.State.{capacity, ValidRuns, ValidList, total-in}
 use Rattle.poison.specs.LineTest.{list-in}
 use Rattle.poison.proofs.list.PoisonList as PoisonListT
 use Rattle.poison.proofs.list.PoisonList.Laws as PoisonListL
 use Rattle.poison.proofs.Laws.{Sized, valid-runs, total-is, valid-more}
-use Rattle.events.specs.declared.log.Log.{Log}
 use Rattle.events.specs.Log.{ValidLog, blank}
 use Rattle.events.proofs.log.Log as LogT
 use Rattle.events.proofs.log.Log.Laws as LogL
@@ -30,21 +27,13 @@ use Rattle.mailbox.specs.State.{DeviceState, ValidDevice, state-of}
 use Rattle.mailbox.specs.Mailbox.{outcome}
 use Rattle.mailbox.specs.DeviceCalls.{event-report, media-report, line-test, damage-total}
 use Rattle.mailbox.specs.Contracts.{Answered, EventDone, MediaDone}
-use Rattle.mailbox.specs.ByParts.{of-list, of-log, log-at, log-named, device-of, with-log, HasLog, ListAnswered, LogAnswered, SettingsAnswered, EventIn, MediaIn}
+use Rattle.mailbox.specs.ByParts.{of-list, of-log, log-at, log-named, device-of, with-log, ListAnswered, LogAnswered, SettingsAnswered, EventIn, MediaIn}
+use Rattle.mailbox.proofs.Laws.{list-parts-answered, log-parts-answered, settings-parts-answered, event-parts-done, media-parts-done}
 use Rattle.mailbox.proofs.device.Device as DeviceT
 use Rattle.mailbox.proofs.device.Device.Laws as DeviceL
 use Rattle.embed.specs.declared.Line.{Line}
 use Rattle.embed.specs.Left.{LineTold, seen}
 use Rattle.embed.proofs.Indexed.{count}
-
--- what a branch on a test tells of it
-pub is-true : (c : Bool) → Holds c → c ≡ true
-is-true true _ = refl
-is-true false z = absurd z
-
-pub is-false : (c : Bool) → Holds (not c) → c ≡ false
-is-false true z = absurd z
-is-false false _ = refl
 
 -- what lies behind the pointer is a device: each number fits its field, each array has its length
 abbrev pub Held : Device → Type 0
@@ -101,16 +90,14 @@ module _ (d : Device) (opcode : ℕ) (payload : List ℕ) (time : ℕ) (reply : 
 
   pub list-command-gives : of-list opcode ≡ true → (r : ListParts) (after : List ℕ) → ListAnswered (d .volatile) (d .persistent) (d .clock) (d .poison) opcode payload time r reply after
       → Ends (r .code) (r .length) (device-of (d .volatile) (d .persistent) (d .clock) (d .policy) (d .logs) (r .list)) after
-  list-command-gives is r after e = e .answered (d .policy) (d .logs) (v .logs)
+  list-command-gives is r after e = list-parts-answered d v e
 
   pub log-command-asks : of-list opcode ≡ false → of-log opcode ≡ true → (k : ℕ) → (k ≡ log-named payload) × (k < 5) → ValidLog (getD (d .logs) k blank) × (of-log opcode ≡ true)
   log-command-asks other is k named = (v .logs .each k (named .1), is)
 
   pub log-command-gives : of-list opcode ≡ false → of-log opcode ≡ true → (k : ℕ) → (k ≡ log-named payload) × (k < 5) → (r : LogParts) (after : List ℕ)
       → LogAnswered (getD (d .logs) k blank) opcode payload r reply after → Ends (r .code) (r .length) (with-log d k (r .log)) after
-  log-command-gives other is k named r after e =
-      subst (λ (j : ℕ). Ends (r .code) (r .length) (with-log d j (r .log)) after) (sym (named .0))
-      (e .answered d time (record { valid = v; five = five d was; held = ap (λ (j : ℕ). getD (d .logs) j blank) (sym (named .0)) }))
+  log-command-gives other is k named r after e = log-parts-answered d v (five d was) k time (named .0) e
 
   pub settings-command-asks : of-list opcode ≡ false → of-log opcode ≡ false
       → (1 ≤ d .volatile + d .persistent) × (d .volatile + d .persistent ≤ most-units) × (of-list opcode ≡ false) × (of-log opcode ≡ false)
@@ -119,7 +106,7 @@ module _ (d : Device) (opcode : ℕ) (payload : List ℕ) (time : ℕ) (reply : 
   pub settings-command-gives : of-list opcode ≡ false → of-log opcode ≡ false → (r : SettingsParts) (after : List ℕ)
       → SettingsAnswered (d .volatile) (d .persistent) (d .clock) (d .policy) opcode payload time r reply after
       → Ends (r .code) (r .length) (device-of (d .volatile) (d .persistent) (r .clock) (r .policy) (d .logs) (d .poison)) after
-  settings-command-gives list log r after e = e .answered (d .logs) (d .poison) (v .logs) (v .poison)
+  settings-command-gives list log r after e = settings-parts-answered d v e
 
 -- ---- the event report
 module _ (d : Device) (time log : ℕ) (event : List ℕ) (v : ValidDevice d) (was : Held d) (k : ℕ) (named : (k ≡ log-at log) × (k < 5)) where
@@ -128,9 +115,7 @@ module _ (d : Device) (time log : ℕ) (event : List ℕ) (v : ValidDevice d) (w
 
   pub event-report-in-gives : (r : EventParts) → EventIn (getD (d .logs) k blank) (d .clock) time log event r
       → EventDone (event-report (state-of d) time log event) d (record { code = r .code; stored = r .stored; device = with-log d k (r .log) })
-  event-report-in-gives r e =
-      subst (λ (j : ℕ). EventDone (event-report (state-of d) time log event) d (record { code = r .code; stored = r .stored; device = with-log d j (r .log) })) (sym (named .0))
-      (e .done d (record { valid = v; five = five d was; held = ap (λ (j : ℕ). getD (d .logs) j blank) (sym (named .0)) }) refl)
+  event-report-in-gives r e = event-parts-done d v (five d was) k (named .0) e
 
 -- ---- the media report
 pub media-report-in-asks : (d : Device) (time address n kind : ℕ) → ValidDevice d → Held d
@@ -141,4 +126,4 @@ pub media-report-in-gives : (d : Device) (time address n kind : ℕ) → ValidDe
     → MediaIn (d .volatile) (d .persistent) (d .clock) (d .poison) time address n kind r
     → MediaDone (media-report (state-of d) time address n kind) d
     (record { code = r .code; stored = r .stored; dropped = r .dropped; device = device-of (d .volatile) (d .persistent) (d .clock) (d .policy) (d .logs) (r .list) })
-media-report-in-gives d time address n kind v was r e = e .done (d .policy) (d .logs) (v .logs)
+media-report-in-gives d time address n kind v was r e = media-parts-done d v e

@@ -59,7 +59,8 @@ pub extern "C" fn kulduvost_device_size() -> usize
     7648
 }
 
-// Makes a device of so many units behind the pointer; where it refuses, the device of one volatile unit. What lay there before is not asked to be valid.
+// Makes a device of so many units behind the pointer; where it refuses, the device of one volatile unit. What lay there before is not asked to be a device that was made.
+// Ensures that the number and the device left are those of `make`, and that this device is valid.
 #[no_mangle]
 pub extern "C" fn kulduvost_make(device: &mut Device, volatile: u16, persistent: u16) -> u16
     ensures { λ r. ⌜ Makes (make volatile persistent) (made r (now (device .exit))) ⌝ }
@@ -71,6 +72,8 @@ pub extern "C" fn kulduvost_make(device: &mut Device, volatile: u16, persistent:
 
 // A command, with the caller's time. The reply is written to the lent buffer, and the device behind the pointer is the one that follows. An opcode sees the poison list, or
 // one event log, or the settings: only that part is copied out and stored back. (Each arm returns by itself, so that the walk of it ends there.)
+// Requires a valid device. Ensures that the number, the length, every byte of the buffer and the device left are those of `outcome`, that a refusal leaves the very same
+// device, and that the device left is valid.
 #[no_mangle]
 pub extern "C" fn kulduvost_command(
     device: &mut Device,
@@ -127,6 +130,7 @@ pub extern "C" fn kulduvost_command(
 }
 
 // Event report of a record to a log, at the caller's time. That log alone is copied out and stored back.
+// Requires a valid device. Ensures that the answer and the device left are those of `event-report`, that a refusal leaves the very same device, and that the device left is valid.
 #[no_mangle]
 pub extern "C" fn kulduvost_event_report(
     device: &mut Device,
@@ -146,7 +150,8 @@ pub extern "C" fn kulduvost_event_report(
     }
 }
 
-// Media report of damage: so many lines from an address on, of a type, at the caller's time.
+// Media report of damage: so many lines from an address on, of a type, at the caller's time. The poison list alone is copied out and stored back.
+// Requires a valid device. Ensures that the answer and the device left are those of `media-report`, that a refusal leaves the very same device, and that the device left is valid.
 #[no_mangle]
 pub extern "C" fn kulduvost_media_report(
     device: &mut Device,
@@ -177,6 +182,7 @@ pub extern "C" fn kulduvost_media_report(
 }
 
 // Line test over the parts of a device that it sees, with its answer as numbers. A refused test answers unknown, with type 0.
+// Requires no more units than a device has, and arrays of 256 whose first `count` runs are in order and apart. Ensures the answer of `line-test` on a device with these parts.
 fn line_in<'a>(
     starts: &'a [u32; 256],
     lengths: &'a [u32; 256],
@@ -220,6 +226,7 @@ fn line_in<'a>(
 }
 
 // Line test: what the host is told of the line at an address. Nothing of the list is copied but its count and its flag.
+// Requires a valid device, and leaves it. Ensures the answer of `line-test`.
 #[no_mangle]
 pub extern "C" fn kulduvost_line_test(device: &Device, address: u64) -> Line
     requires { ⌜ ValidDevice (now device) ⌝ }
@@ -238,6 +245,7 @@ pub extern "C" fn kulduvost_line_test(device: &Device, address: u64) -> Line
 }
 
 // Event status: which logs wait, how many, and the highest-numbered one, 5 where none waits.
+// Requires a valid device, and leaves it. Ensures the answer of `event-status`.
 #[no_mangle]
 pub extern "C" fn kulduvost_event_status(device: &Device) -> Status
     requires { ⌜ ValidDevice (now device) ⌝ }
@@ -246,7 +254,8 @@ pub extern "C" fn kulduvost_event_status(device: &Device) -> Status
     Device::event_status(*device)
 }
 
-// Damage total: the sum of the entries' lengths.
+// Damage total: the sum of the entries' lengths, over the array of lengths where it lies.
+// Requires a valid device, and leaves it. Ensures the answer of `damage-total`.
 #[no_mangle]
 pub extern "C" fn kulduvost_damage_total(device: &Device) -> u64
     requires { ⌜ ValidDevice (now device) ⌝ }

@@ -16,7 +16,7 @@ use ghost.Atoms.{Atoms}
 use contract.Monad.{Fun, fact}
 use contract.Running.{givenOf, tables, tablesOf}
 use types.Kit.{Given, ‵, raw, some, later, _⊛_, ⋆, _$_, _∵_, !, qed, by, move, keep, drop, group, use1, split, join, pick, rewrite, fsplit, fsplit3, fjoin, fjoin3, feqI, suffices, frame, await, done}
-use types.Run.{look, init, store, forget, stop, hop, fld, from, load, of-opd, and-then, no-more, assigns, land, returns, enter, alloc1, alloc0, params1, pass1, pass0, free1, free0}
+use types.Run.{look, init, store, forget, stop, hop, fld, from, load, of-opd, and-then, no-more, assigns, land, returns, enter, alloc1, alloc0, params1, pass1, pass0}
 use types.Part.{whole, sub, look-in}
 use types.SemTy.{Body}
 use sound.WpLaws.{FmC, fmOf, WpFn-mono}
@@ -32,21 +32,21 @@ use denote.Struct.Steps.{spelt}
 use denote.Struct.Laws as LL
 use denote.Triple.Statement.{Contract, Triple}
 use denote.Triple.Call.{calls-at}
-use denote.Triple.Clauses.{ensured, lasts}
+use denote.Triple.Clauses.{ensured, lasts, atExit}
 use denote.Triple.Entry.{onEntry}
 use denote.Triple.Spec.{Meets, tripleOf}
 use denote.Triple.Table.{entered, cited}
-use denote.Triple.Walked.{says, Stays, stay-ref, stay-none, walkOf, AllGo, goes-none, goes-ref, Walks, ends-at, walked, walk-meets}
+use denote.Triple.Walked.{Stays, stay-ref, stay-none, walkOf, AllGo, goes-none, goes-ref, Walks, ends-at, walked, walk-meets}
 use denote.Exit.{yes}
 use Rattle.mailbox.specs.DeviceCalls.{make}
 use Rattle.mailbox.specs.Contracts.{Makes}
-use Rattle.embed.specs.Left.{made}
 use Rattle.mailbox.specs.declared.device.Device.{Device}
 use Rattle.mailbox.proofs.device.Device as DeviceT
 use Rattle.mailbox.proofs.device.Device.Laws as DeviceL
 use Rattle.mailbox.specs.declared.device.Made.{Made}
 use Rattle.mailbox.proofs.device.Made as MadeT
 use Rattle.mailbox.proofs.device.Made.Laws as MadeL
+use Rattle.embed.proofs.Steps.{so, holds, free-all}
 use Rattle.mailbox.proofs.device.Device.make as g-make
 use Rattle.mailbox.proofs.device.Device.make.Symbol as g-make-def
 use Rattle.mailbox.proofs.device.Device.make.Symbol.{name as #g-make}
@@ -86,9 +86,13 @@ module _ {M : Type 1} (𝓤 : URA M) (H : Heap 𝓤) (A : Atoms 𝓤) (W : Given
   goes-make : ent 𝓤 (⋆ 𝓤 H A (‵ ftrue ∷ [])) (C-make 𝓤 H A at-mem run .pre to-make)
   goes-make = qed W (‵ ftrue ∷ []) ∵ nothing ! $ owned ! u16 (Is u16) (uint-makes 𝓤 H A W w16) persistent _ (refl, persistent-fits) $ fjoin ! $ owned ! u16 (Is u16) (uint-makes 𝓤 H A W w16) volatile _ (refl, volatile-fits) $ fjoin ! $ move ! (1 ∷ 0 ∷ []) $ join ! $ frame ! $ done !
 
-  -- what the function owes where it returns: the answer r, at the machine's value v, and the device d behind the pointer
-  exits : (r : ℕ) (d : Device) (v : Val) → Makes (make volatile persistent) (made r d) → Is u16 r (v ∷ []) → ent 𝓤 (⋆ 𝓤 H A (‵ (fobs γ (DeviceT.the-row .coded .code d)) ∷ ‵ (fbor κ0 (Body (mem DeviceT.the-row) b o γ)) ∷ ‵ (flft κ0 q0) ∷ [])) (Post v)
-  exits r d v e is = qed W (‵ (fobs γ (DeviceT.the-row .coded .code d)) ∷ ‵ (fbor κ0 (Body (mem DeviceT.the-row) b o γ)) ∷ ‵ (flft κ0 q0) ∷ []) ∵ suffices ! _ (ends-at 𝓤 H A f.ended stayed (f.clauses 𝓤 H A at-mem run) W (((κ0, tt), (q0, tt), tt, x, at), tt) v r (d, (tt, (tt, tt))) (tt, (tt, (tt, tt)))) $ says ! e $ nothing ! $ move ! (3 ∷ 0 ∷ []) $ group ! 2 $ frame ! $ nothing ! $ owned ! u16 (Is u16) (uint-makes 𝓤 H A W w16) persistent _ (refl, persistent-fits) $ fjoin ! $ owned ! u16 (Is u16) (uint-makes 𝓤 H A W w16) volatile _ (refl, volatile-fits) $ fjoin ! $ move ! (1 ∷ 2 ∷ 0 ∷ []) $ feqI ! (List Val) (vptr b o ∷ []) (vptr b o ∷ []) refl $ fjoin3 ! $ fjoin ! $ frame ! $ owned ! u16 (Is u16) (uint-makes 𝓤 H A W w16) r _ is $ done !
+  -- what the contract ensures of the answer r, of the device d behind the pointer
+  abbrev Clause : (r : ℕ) (d : Device) → SProp 𝓤
+  Clause r d = f.clauses 𝓤 H A at-mem run (κ0, tt) x .ensures tt r (atExit f.ended (κ0, tt) x (d, (tt, (tt, tt))))
+
+  -- what is owed where the function returns r, at the machine's value v
+  exits : (r : ℕ) (d : Device) (v : Val) → ent 𝓤 (emp 𝓤) (Clause r d) → Is u16 r (v ∷ []) → ent 𝓤 (⋆ 𝓤 H A (‵ (fobs γ (DeviceT.the-row .coded .code d)) ∷ ‵ (fbor κ0 (Body (mem DeviceT.the-row) b o γ)) ∷ ‵ (flft κ0 q0) ∷ [])) (Post v)
+  exits r d v e is = qed W (‵ (fobs γ (DeviceT.the-row .coded .code d)) ∷ ‵ (fbor κ0 (Body (mem DeviceT.the-row) b o γ)) ∷ ‵ (flft κ0 q0) ∷ []) ∵ suffices ! _ (ends-at 𝓤 H A f.ended stayed (f.clauses 𝓤 H A at-mem run) W (((κ0, tt), (q0, tt), tt, x, at), tt) v r (d, (tt, (tt, tt))) (tt, (tt, (tt, tt)))) $ holds ! e $ nothing ! $ move ! (3 ∷ 0 ∷ []) $ group ! 2 $ frame ! $ nothing ! $ owned ! u16 (Is u16) (uint-makes 𝓤 H A W w16) persistent _ (refl, persistent-fits) $ fjoin ! $ owned ! u16 (Is u16) (uint-makes 𝓤 H A W w16) volatile _ (refl, volatile-fits) $ fjoin ! $ move ! (1 ∷ 2 ∷ 0 ∷ []) $ feqI ! (List Val) (vptr b o ∷ []) (vptr b o ∷ []) refl $ fjoin3 ! $ fjoin ! $ frame ! $ owned ! u16 (Is u16) (uint-makes 𝓤 H A W w16) r _ is $ done !
 
   module _ (C : Calls 𝓤 H) (Λ : Loops 𝓤 H) (fm : FmC 𝓤 H (W .laws) C) (k-make : Triple 𝓤 (C #g-make) (C-make 𝓤 H A at-mem run)) where
     walk : ent 𝓤 (onEntry 𝓤 H A f.signature (κ0, tt) (q0, tt) x at) (WpFn 𝓤 H C Λ code.function (vptr b o ∷ vint w16 volatile ∷ vint w16 persistent ∷ []) Post)
@@ -116,8 +120,8 @@ module _ {M : Type 1} (𝓤 : URA M) (H : Heap 𝓤) (A : Atoms 𝓤) (W : Given
         move ! (0 ∷ []) $ use1 W (‵ (cellAt fullShare (DeviceT.the-row .mir) (mach (r-make .device) ∷ []) b o)) (W .laws .at-raw fullShare DeviceL.mir b o (mach (r-make .device))) $ owned ! DeviceT.the-row (Is DeviceT.the-row) ((LL.makes DeviceT.the-type DeviceL.the-plain) 𝓤 H A) (r-make .device) (mach (r-make .device) ∷ []) (LL.owed MadeT.the-type MadeL.the-laws r-make _ i-make .1 .0) $
         move ! (1 ∷ 0 ∷ 2 ∷ 3 ∷ 4 ∷ []) $ closes ! tt DeviceT.the-row (r-make .device) (mach (r-make .device) ∷ []) b o $
         returns ! (look ! 11 refl) $ forget ! 3 refl $ forget ! 5 refl $ forget ! 7 refl $ forget ! 9 refl $ forget ! 11 refl $
-        move ! (11 ∷ 12 ∷ []) $ free1 ! $ move ! (9 ∷ 10 ∷ []) $ free1 ! $ move ! (7 ∷ 8 ∷ []) $ free1 ! $ move ! (5 ∷ 6 ∷ []) $ free1 ! $ move ! (3 ∷ 4 ∷ []) $ free1 ! $ free0 ! $
-        keep ! (0 ∷ 1 ∷ 2 ∷ []) $ by ! (exits (r-make .code) (r-make .device) _ e-make (refl, LL.owed MadeT.the-type MadeL.the-laws r-make _ i-make .0 .1))))))))))))))
+        move ! (11 ∷ 12 ∷ 9 ∷ 10 ∷ 7 ∷ 8 ∷ 5 ∷ 6 ∷ 3 ∷ 4 ∷ []) $ free-all ! $
+        keep ! (0 ∷ 1 ∷ 2 ∷ []) $ by ! (exits (r-make .code) (r-make .device) _ (so 𝓤 e-make) (refl, LL.owed MadeT.the-type MadeL.the-laws r-make _ i-make .0 .1))))))))))))))
 
 module _ {M : Type 1} (𝓤 : URA M) (H : Heap 𝓤) (A : Atoms 𝓤) (W : Given 𝓤 H A) (at-mem : Memory → SProp 𝓤) (run : Routine → Fun 𝓤) where
   walks : (C : Calls 𝓤 H) (Λ : Loops 𝓤 H) → FmC 𝓤 H (W .laws) C → Triple 𝓤 (C #g-make) (C-make 𝓤 H A at-mem run) → Walks 𝓤 H A f.ended stayed (WpFn 𝓤 H C Λ code.function) (f.clauses 𝓤 H A at-mem run)

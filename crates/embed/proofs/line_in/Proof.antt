@@ -5,8 +5,7 @@ use borrow.Author.Needs.{needs}
 use Rattle.poison.specs.declared.line_test.LineTest.{LineTest}
 use Rattle.poison.specs.declared.line_test.LineTest.the-variants.{Clean, Damaged, Unknown}
 use Rattle.poison.specs.LineTest.{list-in, answer-number, answer-type}
-use Rattle.mailbox.specs.State.{DeviceState, lines-of}
-use Rattle.mailbox.specs.PoisonCommands.{line-code}
+use Rattle.mailbox.specs.State.{DeviceState}
 use Rattle.mailbox.specs.DeviceCalls.{line-test}
 use Rattle.mailbox.proofs.Laws.{line-inside}
 use Rattle.embed.specs.Left.{LineTold, seen}
