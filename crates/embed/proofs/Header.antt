@@ -3,12 +3,12 @@ use mathlib.Core.Path.{_≡_, refl}
 use mathlib.Core.Option.{some}
 use mir.Syntax.{tyInt, tyBool, tyArray, w8, w16, w32, w64}
 use prog.Memory.{size, align, fieldOf}
-use Rattle.poison.proofs.list.PoisonList.Laws as P
-use Rattle.events.proofs.log.Record.Laws as E
-use Rattle.events.proofs.log.Log.Laws as L
-use Rattle.events.proofs.status.Status.Laws as S
-use Rattle.mailbox.proofs.clock.Clock.Laws as K
-use Rattle.mailbox.proofs.device.Device.Laws as T
+use Rattle.poison.proofs.list.PoisonList.Laws as PoisonList
+use Rattle.events.proofs.log.Record.Laws as Record
+use Rattle.events.proofs.log.Log.Laws as Log
+use Rattle.events.proofs.status.Status.Laws as Status
+use Rattle.mailbox.proofs.clock.Clock.Laws as Clock
+use Rattle.mailbox.proofs.device.Device.Laws as Device
 use Rattle.embed.specs.Left.{device-size}
 use Rattle.embed.proofs.Done.Laws as Done
 use Rattle.embed.proofs.Event.Laws as Event
@@ -16,85 +16,112 @@ use Rattle.embed.proofs.Media.Laws as Media
 use Rattle.embed.proofs.Line.Laws as Line
 
 -- ---- the device
-pub device-size-is : size T.mir ≡ device-size
+pub device-size-is : size Device.mir ≡ device-size
 device-size-is = refl
 
-pub device-align : align T.mir ≡ 8
+pub device-align : align Device.mir ≡ 8
 device-align = refl
 
-pub volatile-at : fieldOf T.mir 0 ≡ some (tyInt w16, 0)
-volatile-at = refl
+pub device-volatile-at : fieldOf Device.mir 0 ≡ some (tyInt w16, 0)
+device-volatile-at = refl
 
-pub persistent-at : fieldOf T.mir 1 ≡ some (tyInt w16, 2)
-persistent-at = refl
+pub device-persistent-at : fieldOf Device.mir 1 ≡ some (tyInt w16, 2)
+device-persistent-at = refl
 
-pub clock-at : fieldOf T.mir 2 ≡ some (K.mir, 8)
-clock-at = refl
+pub device-clock-at : fieldOf Device.mir 2 ≡ some (Clock.mir, 8)
+device-clock-at = refl
 
-pub policy-at : fieldOf T.mir 3 ≡ some (tyArray (tyInt w8) 5, 32)
-policy-at = refl
+pub device-policy-at : fieldOf Device.mir 3 ≡ some (tyArray (tyInt w8) 5, 32)
+device-policy-at = refl
 
-pub logs-at : fieldOf T.mir 4 ≡ some (tyArray L.mir 5, 40)
-logs-at = refl
+pub device-logs-at : fieldOf Device.mir 4 ≡ some (tyArray Log.mir 5, 40)
+device-logs-at = refl
 
-pub poison-at : fieldOf T.mir 5 ≡ some (P.mir, 5320)
-poison-at = refl
+pub device-poison-at : fieldOf Device.mir 5 ≡ some (PoisonList.mir, 5320)
+device-poison-at = refl
 
 -- ---- its parts
-pub clock-size : size K.mir ≡ 24
+pub clock-size : size Clock.mir ≡ 24
 clock-size = refl
 
-pub value-at : fieldOf K.mir 1 ≡ some (tyInt w64, 8)
-value-at = refl
+pub clock-align : align Clock.mir ≡ 8
+clock-align = refl
 
-pub since-at : fieldOf K.mir 2 ≡ some (tyInt w64, 16)
-since-at = refl
+pub clock-set-at : fieldOf Clock.mir 0 ≡ some (tyBool, 0)
+clock-set-at = refl
 
-pub log-size : size L.mir ≡ 1056
+pub clock-value-at : fieldOf Clock.mir 1 ≡ some (tyInt w64, 8)
+clock-value-at = refl
+
+pub clock-since-at : fieldOf Clock.mir 2 ≡ some (tyInt w64, 16)
+clock-since-at = refl
+
+pub log-size : size Log.mir ≡ 1056
 log-size = refl
 
-pub records-at : fieldOf L.mir 0 ≡ some (tyArray E.mir 8, 0)
-records-at = refl
+pub log-align : align Log.mir ≡ 8
+log-align = refl
 
-pub held-at : fieldOf L.mir 1 ≡ some (tyInt w64, 1024)
-held-at = refl
+pub log-records-at : fieldOf Log.mir 0 ≡ some (tyArray Record.mir 8, 0)
+log-records-at = refl
 
-pub next-at : fieldOf L.mir 2 ≡ some (tyInt w16, 1032)
-next-at = refl
+pub log-count-at : fieldOf Log.mir 1 ≡ some (tyInt w64, 1024)
+log-count-at = refl
 
-pub lost-at : fieldOf L.mir 3 ≡ some (tyInt w16, 1034)
-lost-at = refl
+pub log-next-at : fieldOf Log.mir 2 ≡ some (tyInt w16, 1032)
+log-next-at = refl
 
-pub first-at : fieldOf L.mir 4 ≡ some (tyInt w64, 1040)
-first-at = refl
+pub log-overflow-count-at : fieldOf Log.mir 3 ≡ some (tyInt w16, 1034)
+log-overflow-count-at = refl
 
-pub last-at : fieldOf L.mir 5 ≡ some (tyInt w64, 1048)
-last-at = refl
+pub log-first-overflow-at : fieldOf Log.mir 4 ≡ some (tyInt w64, 1040)
+log-first-overflow-at = refl
 
-pub list-size : size P.mir ≡ 2328
+pub log-last-overflow-at : fieldOf Log.mir 5 ≡ some (tyInt w64, 1048)
+log-last-overflow-at = refl
+
+pub record-size : size Record.mir ≡ 128
+record-size = refl
+
+pub record-align : align Record.mir ≡ 1
+record-align = refl
+
+pub record-bytes-at : fieldOf Record.mir 0 ≡ some (tyArray (tyInt w8) 128, 0)
+record-bytes-at = refl
+
+pub list-size : size PoisonList.mir ≡ 2328
 list-size = refl
 
-pub starts-at : fieldOf P.mir 0 ≡ some (tyArray (tyInt w32) 256, 0)
-starts-at = refl
+pub list-align : align PoisonList.mir ≡ 8
+list-align = refl
 
-pub lengths-at : fieldOf P.mir 1 ≡ some (tyArray (tyInt w32) 256, 1024)
-lengths-at = refl
+pub list-starts-at : fieldOf PoisonList.mir 0 ≡ some (tyArray (tyInt w32) 256, 0)
+list-starts-at = refl
 
-pub kinds-at : fieldOf P.mir 2 ≡ some (tyArray (tyInt w8) 256, 2048)
-kinds-at = refl
+pub list-lengths-at : fieldOf PoisonList.mir 1 ≡ some (tyArray (tyInt w32) 256, 1024)
+list-lengths-at = refl
 
-pub count-at : fieldOf P.mir 3 ≡ some (tyInt w64, 2304)
-count-at = refl
+pub list-kinds-at : fieldOf PoisonList.mir 2 ≡ some (tyArray (tyInt w8) 256, 2048)
+list-kinds-at = refl
 
-pub overflow-at : fieldOf P.mir 4 ≡ some (tyBool, 2312)
-overflow-at = refl
+pub list-count-at : fieldOf PoisonList.mir 3 ≡ some (tyInt w64, 2304)
+list-count-at = refl
 
-pub overflow-time-at : fieldOf P.mir 5 ≡ some (tyInt w64, 2320)
-overflow-time-at = refl
+pub list-overflow-at : fieldOf PoisonList.mir 4 ≡ some (tyBool, 2312)
+list-overflow-at = refl
+
+pub list-overflow-time-at : fieldOf PoisonList.mir 5 ≡ some (tyInt w64, 2320)
+list-overflow-time-at = refl
 
 -- ---- the answers
 pub done-size : size Done.mir ≡ 16
 done-size = refl
+
+pub done-align : align Done.mir ≡ 8
+done-align = refl
+
+pub done-code-at : fieldOf Done.mir 0 ≡ some (tyInt w16, 0)
+done-code-at = refl
 
 pub done-length-at : fieldOf Done.mir 1 ≡ some (tyInt w64, 8)
 done-length-at = refl
@@ -102,11 +129,23 @@ done-length-at = refl
 pub event-size : size Event.mir ≡ 4
 event-size = refl
 
+pub event-align : align Event.mir ≡ 2
+event-align = refl
+
+pub event-code-at : fieldOf Event.mir 0 ≡ some (tyInt w16, 0)
+event-code-at = refl
+
 pub event-stored-at : fieldOf Event.mir 1 ≡ some (tyBool, 2)
 event-stored-at = refl
 
 pub media-size : size Media.mir ≡ 12
 media-size = refl
+
+pub media-align : align Media.mir ≡ 4
+media-align = refl
+
+pub media-code-at : fieldOf Media.mir 0 ≡ some (tyInt w16, 0)
+media-code-at = refl
 
 pub media-stored-at : fieldOf Media.mir 1 ≡ some (tyInt w32, 4)
 media-stored-at = refl
@@ -117,17 +156,29 @@ media-dropped-at = refl
 pub line-size : size Line.mir ≡ 4
 line-size = refl
 
+pub line-align : align Line.mir ≡ 2
+line-align = refl
+
+pub line-code-at : fieldOf Line.mir 0 ≡ some (tyInt w16, 0)
+line-code-at = refl
+
 pub line-answer-at : fieldOf Line.mir 1 ≡ some (tyInt w8, 2)
 line-answer-at = refl
 
 pub line-kind-at : fieldOf Line.mir 2 ≡ some (tyInt w8, 3)
 line-kind-at = refl
 
-pub status-size : size S.mir ≡ 12
+pub status-size : size Status.mir ≡ 12
 status-size = refl
 
-pub waiting-at : fieldOf S.mir 1 ≡ some (tyInt w32, 4)
-waiting-at = refl
+pub status-align : align Status.mir ≡ 4
+status-align = refl
 
-pub highest-at : fieldOf S.mir 2 ≡ some (tyInt w32, 8)
-highest-at = refl
+pub status-bits-at : fieldOf Status.mir 0 ≡ some (tyInt w32, 0)
+status-bits-at = refl
+
+pub status-waiting-at : fieldOf Status.mir 1 ≡ some (tyInt w32, 4)
+status-waiting-at = refl
+
+pub status-highest-at : fieldOf Status.mir 2 ≡ some (tyInt w32, 8)
+status-highest-at = refl

@@ -9,6 +9,7 @@ use mailbox::device::Device;
 use poison::line_test;
 use poison::line_test::LineTest;
 use poison::list;
+use wire::returns;
 ghost use mathlib.Core.Path.{_≡_};
 ghost use Prim.Native.Nat.{_+_, _≤_};
 ghost use lib.ListN.{length};
@@ -197,7 +198,7 @@ fn line_in<'a>(
     ensures { λ r. ⌜ LineTold (line-test (seen volatile persistent (list-in count (now (starts .entry)) (now (lengths .entry)) (now (kinds .entry)) overflow)) address) r ⌝ }
 {
     let code = by_parts::check_address(volatile, persistent, address);
-    if code != 0 {
+    if code != returns::SUCCESS {
         return Line {
             code,
             answer: 2,

@@ -57,10 +57,13 @@ use Rattle.embed.proofs.Done.Laws as DoneL
 use Rattle.mailbox.specs.declared.by_parts.ListParts.{ListParts}
 use Rattle.mailbox.proofs.by_parts.ListParts as ListPartsT
 use Rattle.mailbox.proofs.by_parts.ListParts.Laws as ListPartsL
+use Rattle.poison.specs.declared.list.PoisonList.{PoisonList}
 use Rattle.poison.proofs.list.PoisonList as PoisonListT
 use Rattle.poison.proofs.list.PoisonList.Laws as PoisonListL
+use Rattle.mailbox.specs.declared.clock.Clock.{Clock}
 use Rattle.mailbox.proofs.clock.Clock as ClockT
 use Rattle.mailbox.proofs.clock.Clock.Laws as ClockL
+use Rattle.events.specs.declared.log.Log.{Log}
 use Rattle.events.proofs.log.Log as LogT
 use Rattle.events.proofs.log.Log.Laws as LogL
 use Rattle.mailbox.specs.declared.by_parts.LogParts.{LogParts}
@@ -156,6 +159,19 @@ module _ {M : Type 1} (𝓤 : URA M) (H : Heap 𝓤) (A : Atoms 𝓤) (W : Given
   abbrev Post : Val → SProp 𝓤
   Post = walkOf 𝓤 H A f.ended stayed (f.clauses 𝓤 H A at-mem run) .post (((κ0, (κ1, (κ2, tt))), (q0, (q1, (q2, tt))), tt, x, at), tt)
 
+  -- a device with another part is one
+  put-clock : (d : Device) → Is DeviceT.the-row d (mach d ∷ []) → (x : Clock) → Is ClockT.the-row x (LL.val ClockT.the-type ClockL.the-laws x ∷ []) → Is DeviceT.the-row (record { volatile = d .volatile; persistent = d .persistent; clock = x; policy = d .policy; logs = d .logs; poison = d .poison }) (mach (record { volatile = d .volatile; persistent = d .persistent; clock = x; policy = d .policy; logs = d .logs; poison = d .poison }) ∷ [])
+  put-clock d was x is = let owed = LL.owed DeviceT.the-type DeviceL.the-laws d _ was in LL.owes DeviceT.the-type DeviceL.the-laws (record { volatile = d .volatile; persistent = d .persistent; clock = x; policy = d .policy; logs = d .logs; poison = d .poison }) (owed .0, (owed .1 .0, (is, (owed .1 .1 .1 .0, (owed .1 .1 .1 .1 .0, (owed .1 .1 .1 .1 .1 .0, tt))))))
+
+  put-policy : (d : Device) → Is DeviceT.the-row d (mach d ∷ []) → (x : List ℕ) → Is (Array u8 5) (map (λ (e : ℕ). e) x) (arrayVal (map (λ (e : ℕ). vint w8 e) (map (λ (e : ℕ). e) x)) ∷ []) → Is DeviceT.the-row (record { volatile = d .volatile; persistent = d .persistent; clock = d .clock; policy = x; logs = d .logs; poison = d .poison }) (mach (record { volatile = d .volatile; persistent = d .persistent; clock = d .clock; policy = x; logs = d .logs; poison = d .poison }) ∷ [])
+  put-policy d was x is = let owed = LL.owed DeviceT.the-type DeviceL.the-laws d _ was in LL.owes DeviceT.the-type DeviceL.the-laws (record { volatile = d .volatile; persistent = d .persistent; clock = d .clock; policy = x; logs = d .logs; poison = d .poison }) (owed .0, (owed .1 .0, (owed .1 .1 .0, (is, (owed .1 .1 .1 .1 .0, (owed .1 .1 .1 .1 .1 .0, tt))))))
+
+  put-logs : (d : Device) → Is DeviceT.the-row d (mach d ∷ []) → (i : ℕ) (x : Log) → Is LogT.the-row x (LL.val LogT.the-type LogL.the-laws x ∷ []) → Is DeviceT.the-row (record { volatile = d .volatile; persistent = d .persistent; clock = d .clock; policy = d .policy; logs = set (d .logs) i x; poison = d .poison }) (mach (record { volatile = d .volatile; persistent = d .persistent; clock = d .clock; policy = d .policy; logs = set (d .logs) i x; poison = d .poison }) ∷ [])
+  put-logs d was i x is = let owed = LL.owed DeviceT.the-type DeviceL.the-laws d _ was in LL.owes DeviceT.the-type DeviceL.the-laws (record { volatile = d .volatile; persistent = d .persistent; clock = d .clock; policy = d .policy; logs = set (d .logs) i x; poison = d .poison }) (owed .0, (owed .1 .0, (owed .1 .1 .0, (owed .1 .1 .1 .0, (with-element LogT.the-type LogL.the-laws 5 (d .logs) _ (owed .1 .1 .1 .1 .0) i x is, (owed .1 .1 .1 .1 .1 .0, tt))))))
+
+  put-poison : (d : Device) → Is DeviceT.the-row d (mach d ∷ []) → (x : PoisonList) → Is PoisonListT.the-row x (LL.val PoisonListT.the-type PoisonListL.the-laws x ∷ []) → Is DeviceT.the-row (record { volatile = d .volatile; persistent = d .persistent; clock = d .clock; policy = d .policy; logs = d .logs; poison = x }) (mach (record { volatile = d .volatile; persistent = d .persistent; clock = d .clock; policy = d .policy; logs = d .logs; poison = x }) ∷ [])
+  put-poison d was x is = let owed = LL.owed DeviceT.the-type DeviceL.the-laws d _ was in LL.owes DeviceT.the-type DeviceL.the-laws (record { volatile = d .volatile; persistent = d .persistent; clock = d .clock; policy = d .policy; logs = d .logs; poison = x }) (owed .0, (owed .1 .0, (owed .1 .1 .0, (owed .1 .1 .1 .0, (owed .1 .1 .1 .1 .0, (is, tt))))))
+
   -- what each call binds, and that the caller has what it asks
   abbrev to-of-list : C-of-list 𝓤 H A at-mem run .Ghost
   to-of-list = ((tt, tt, tt, (opcode, tt), (vint w16 opcode ∷ [], tt)), tt)
@@ -249,7 +265,7 @@ module _ {M : Type 1} (𝓤 : URA M) (H : Heap 𝓤) (A : Atoms 𝓤) (W : Given
         assigns ! (agg ! (and-then ! (load ! (from ! (fld ! refl (stop !))) (look-in ! 58 (sub ! 0 refl (whole !)))) (and-then ! (load ! (from ! (fld ! refl (stop !))) (look-in ! 58 (sub ! 1 refl (whole !)))) (no-more !)))) (from ! (stop !)) (init ! 70 refl (tt, (record { fits = LL.owed ListPartsT.the-type ListPartsL.the-laws r-list-command _ i-list-command .0 .1 }, (record { fits = LL.owed ListPartsT.the-type ListPartsL.the-laws r-list-command _ i-list-command .1 .0 .1 }, tt)))) $
         -- return
         -- the borrow is closed
-        move ! (4 ∷ []) $ use1 W (‵ (cellAt fullShare (DeviceT.the-row .mir) (mach (record { volatile = h .volatile; persistent = h .persistent; clock = h .clock; policy = h .policy; logs = h .logs; poison = r-list-command .list }) ∷ []) b o)) (W .laws .at-raw fullShare DeviceL.mir b o (mach (record { volatile = h .volatile; persistent = h .persistent; clock = h .clock; policy = h .policy; logs = h .logs; poison = r-list-command .list }))) $ owned ! DeviceT.the-row (Is DeviceT.the-row) ((LL.makes DeviceT.the-type DeviceL.the-plain) 𝓤 H A) (record { volatile = h .volatile; persistent = h .persistent; clock = h .clock; policy = h .policy; logs = h .logs; poison = r-list-command .list }) (mach (record { volatile = h .volatile; persistent = h .persistent; clock = h .clock; policy = h .policy; logs = h .logs; poison = r-list-command .list }) ∷ []) (LL.owes DeviceT.the-type DeviceL.the-laws (record { volatile = h .volatile; persistent = h .persistent; clock = h .clock; policy = h .policy; logs = h .logs; poison = r-list-command .list }) ((refl, LL.owed DeviceT.the-type DeviceL.the-laws h _ was .0 .1), ((refl, LL.owed DeviceT.the-type DeviceL.the-laws h _ was .1 .0 .1), (LL.owed DeviceT.the-type DeviceL.the-laws h _ was .1 .1 .0, (LL.owed DeviceT.the-type DeviceL.the-laws h _ was .1 .1 .1 .0, (LL.owed DeviceT.the-type DeviceL.the-laws h _ was .1 .1 .1 .1 .0, (LL.owed ListPartsT.the-type ListPartsL.the-laws r-list-command _ i-list-command .1 .1 .0, tt))))))) $
+        move ! (4 ∷ []) $ use1 W (‵ (cellAt fullShare (DeviceT.the-row .mir) (mach (record { volatile = h .volatile; persistent = h .persistent; clock = h .clock; policy = h .policy; logs = h .logs; poison = r-list-command .list }) ∷ []) b o)) (W .laws .at-raw fullShare DeviceL.mir b o (mach (record { volatile = h .volatile; persistent = h .persistent; clock = h .clock; policy = h .policy; logs = h .logs; poison = r-list-command .list }))) $ owned ! DeviceT.the-row (Is DeviceT.the-row) ((LL.makes DeviceT.the-type DeviceL.the-plain) 𝓤 H A) (record { volatile = h .volatile; persistent = h .persistent; clock = h .clock; policy = h .policy; logs = h .logs; poison = r-list-command .list }) (mach (record { volatile = h .volatile; persistent = h .persistent; clock = h .clock; policy = h .policy; logs = h .logs; poison = r-list-command .list }) ∷ []) (put-poison h was (r-list-command .list) (LL.owed ListPartsT.the-type ListPartsL.the-laws r-list-command _ i-list-command .1 .1 .0)) $
         move ! (1 ∷ 0 ∷ 6 ∷ 7 ∷ 8 ∷ []) $ closes ! tt DeviceT.the-row (record { volatile = h .volatile; persistent = h .persistent; clock = h .clock; policy = h .policy; logs = h .logs; poison = r-list-command .list }) (mach (record { volatile = h .volatile; persistent = h .persistent; clock = h .clock; policy = h .policy; logs = h .logs; poison = r-list-command .list }) ∷ []) b o $
         returns-within ! Post refl (look ! 69 refl) $ forget ! 37 refl $ forget ! 39 refl $ forget ! 41 refl $ forget ! 43 refl $ forget ! 45 refl $ forget ! 47 refl $ forget ! 49 refl $ forget ! 57 refl $ forget ! 59 refl $ forget ! 61 refl $ forget ! 63 refl $ forget ! 65 refl $ forget ! 67 refl $ forget ! 69 refl $
         move ! (69 ∷ 70 ∷ 67 ∷ 68 ∷ 65 ∷ 66 ∷ 63 ∷ 64 ∷ 61 ∷ 62 ∷ 59 ∷ 60 ∷ 57 ∷ 58 ∷ 55 ∷ 56 ∷ 53 ∷ 54 ∷ 51 ∷ 52 ∷ 49 ∷ 50 ∷ 47 ∷ 48 ∷ 45 ∷ 46 ∷ 43 ∷ 44 ∷ 41 ∷ 42 ∷ 39 ∷ 40 ∷ 37 ∷ 38 ∷ 35 ∷ 36 ∷ 33 ∷ 34 ∷ 31 ∷ 32 ∷ 29 ∷ 30 ∷ 27 ∷ 28 ∷ 25 ∷ 26 ∷ 23 ∷ 24 ∷ 21 ∷ 22 ∷ 19 ∷ 20 ∷ 17 ∷ 18 ∷ 15 ∷ 16 ∷ 13 ∷ 14 ∷ 11 ∷ 12 ∷ 9 ∷ 10 ∷ 7 ∷ 8 ∷ []) $ free-all ! $
@@ -313,7 +329,7 @@ module _ {M : Type 1} (𝓤 : URA M) (H : Heap 𝓤) (A : Atoms 𝓤) (W : Given
         assigns ! (agg ! (and-then ! (load ! (from ! (fld ! refl (stop !))) (look-in ! 54 (sub ! 0 refl (whole !)))) (and-then ! (load ! (from ! (fld ! refl (stop !))) (look-in ! 54 (sub ! 1 refl (whole !)))) (no-more !)))) (from ! (stop !)) (init ! 70 refl (tt, (record { fits = LL.owed LogPartsT.the-type LogPartsL.the-laws r-log-command _ i-log-command .0 .1 }, (record { fits = LL.owed LogPartsT.the-type LogPartsL.the-laws r-log-command _ i-log-command .1 .0 .1 }, tt)))) $
         -- return
         -- the borrow is closed
-        move ! (4 ∷ []) $ use1 W (‵ (cellAt fullShare (DeviceT.the-row .mir) (mach (record { volatile = h .volatile; persistent = h .persistent; clock = h .clock; policy = h .policy; logs = set (h .logs) r-log-named (r-log-command .log); poison = h .poison }) ∷ []) b o)) (W .laws .at-raw fullShare DeviceL.mir b o (mach (record { volatile = h .volatile; persistent = h .persistent; clock = h .clock; policy = h .policy; logs = set (h .logs) r-log-named (r-log-command .log); poison = h .poison }))) $ owned ! DeviceT.the-row (Is DeviceT.the-row) ((LL.makes DeviceT.the-type DeviceL.the-plain) 𝓤 H A) (record { volatile = h .volatile; persistent = h .persistent; clock = h .clock; policy = h .policy; logs = set (h .logs) r-log-named (r-log-command .log); poison = h .poison }) (mach (record { volatile = h .volatile; persistent = h .persistent; clock = h .clock; policy = h .policy; logs = set (h .logs) r-log-named (r-log-command .log); poison = h .poison }) ∷ []) (LL.owes DeviceT.the-type DeviceL.the-laws (record { volatile = h .volatile; persistent = h .persistent; clock = h .clock; policy = h .policy; logs = set (h .logs) r-log-named (r-log-command .log); poison = h .poison }) ((refl, LL.owed DeviceT.the-type DeviceL.the-laws h _ was-2 .0 .1), ((refl, LL.owed DeviceT.the-type DeviceL.the-laws h _ was-2 .1 .0 .1), (LL.owed DeviceT.the-type DeviceL.the-laws h _ was-2 .1 .1 .0, (LL.owed DeviceT.the-type DeviceL.the-laws h _ was-2 .1 .1 .1 .0, (with-element LogT.the-type LogL.the-laws 5 (h .logs) _ (LL.owed DeviceT.the-type DeviceL.the-laws h _ was-2 .1 .1 .1 .1 .0) r-log-named (r-log-command .log) (LL.owed LogPartsT.the-type LogPartsL.the-laws r-log-command _ i-log-command .1 .1 .0), (LL.owed DeviceT.the-type DeviceL.the-laws h _ was-2 .1 .1 .1 .1 .1 .0, tt))))))) $
+        move ! (4 ∷ []) $ use1 W (‵ (cellAt fullShare (DeviceT.the-row .mir) (mach (record { volatile = h .volatile; persistent = h .persistent; clock = h .clock; policy = h .policy; logs = set (h .logs) r-log-named (r-log-command .log); poison = h .poison }) ∷ []) b o)) (W .laws .at-raw fullShare DeviceL.mir b o (mach (record { volatile = h .volatile; persistent = h .persistent; clock = h .clock; policy = h .policy; logs = set (h .logs) r-log-named (r-log-command .log); poison = h .poison }))) $ owned ! DeviceT.the-row (Is DeviceT.the-row) ((LL.makes DeviceT.the-type DeviceL.the-plain) 𝓤 H A) (record { volatile = h .volatile; persistent = h .persistent; clock = h .clock; policy = h .policy; logs = set (h .logs) r-log-named (r-log-command .log); poison = h .poison }) (mach (record { volatile = h .volatile; persistent = h .persistent; clock = h .clock; policy = h .policy; logs = set (h .logs) r-log-named (r-log-command .log); poison = h .poison }) ∷ []) (put-logs h was-2 r-log-named (r-log-command .log) (LL.owed LogPartsT.the-type LogPartsL.the-laws r-log-command _ i-log-command .1 .1 .0)) $
         move ! (1 ∷ 0 ∷ 6 ∷ 7 ∷ 8 ∷ []) $ closes ! tt DeviceT.the-row (record { volatile = h .volatile; persistent = h .persistent; clock = h .clock; policy = h .policy; logs = set (h .logs) r-log-named (r-log-command .log); poison = h .poison }) (mach (record { volatile = h .volatile; persistent = h .persistent; clock = h .clock; policy = h .policy; logs = set (h .logs) r-log-named (r-log-command .log); poison = h .poison }) ∷ []) b o $
         returns-within ! Post refl (look ! 69 refl) $ forget ! 19 refl $ forget ! 21 refl $ forget ! 23 refl $ forget ! 25 refl $ forget ! 27 refl $ forget ! 29 refl $ forget ! 31 refl $ forget ! 33 refl $ forget ! 35 refl $ forget ! 49 refl $ forget ! 53 refl $ forget ! 55 refl $ forget ! 59 refl $ forget ! 61 refl $ forget ! 63 refl $ forget ! 65 refl $ forget ! 67 refl $ forget ! 69 refl $
         move ! (69 ∷ 70 ∷ 67 ∷ 68 ∷ 65 ∷ 66 ∷ 63 ∷ 64 ∷ 61 ∷ 62 ∷ 59 ∷ 60 ∷ 57 ∷ 58 ∷ 55 ∷ 56 ∷ 53 ∷ 54 ∷ 51 ∷ 52 ∷ 49 ∷ 50 ∷ 47 ∷ 48 ∷ 45 ∷ 46 ∷ 43 ∷ 44 ∷ 41 ∷ 42 ∷ 39 ∷ 40 ∷ 37 ∷ 38 ∷ 35 ∷ 36 ∷ 33 ∷ 34 ∷ 31 ∷ 32 ∷ 29 ∷ 30 ∷ 27 ∷ 28 ∷ 25 ∷ 26 ∷ 23 ∷ 24 ∷ 21 ∷ 22 ∷ 19 ∷ 20 ∷ 17 ∷ 18 ∷ 15 ∷ 16 ∷ 13 ∷ 14 ∷ 11 ∷ 12 ∷ 9 ∷ 10 ∷ 7 ∷ 8 ∷ []) $ free-all ! $
@@ -352,7 +368,7 @@ module _ {M : Type 1} (𝓤 : URA M) (H : Heap 𝓤) (A : Atoms 𝓤) (W : Given
         assigns ! (agg ! (and-then ! (load ! (from ! (fld ! refl (stop !))) (look-in ! 52 (sub ! 0 refl (whole !)))) (and-then ! (load ! (from ! (fld ! refl (stop !))) (look-in ! 52 (sub ! 1 refl (whole !)))) (no-more !)))) (from ! (stop !)) (init ! 70 refl (tt, (record { fits = LL.owed SettingsPartsT.the-type SettingsPartsL.the-laws r-settings-command _ i-settings-command .0 .1 }, (record { fits = LL.owed SettingsPartsT.the-type SettingsPartsL.the-laws r-settings-command _ i-settings-command .1 .0 .1 }, tt)))) $
         -- return
         -- the borrow is closed
-        move ! (4 ∷ []) $ use1 W (‵ (cellAt fullShare (DeviceT.the-row .mir) (mach (record { volatile = h .volatile; persistent = h .persistent; clock = r-settings-command .clock; policy = r-settings-command .policy; logs = h .logs; poison = h .poison }) ∷ []) b o)) (W .laws .at-raw fullShare DeviceL.mir b o (mach (record { volatile = h .volatile; persistent = h .persistent; clock = r-settings-command .clock; policy = r-settings-command .policy; logs = h .logs; poison = h .poison }))) $ owned ! DeviceT.the-row (Is DeviceT.the-row) ((LL.makes DeviceT.the-type DeviceL.the-plain) 𝓤 H A) (record { volatile = h .volatile; persistent = h .persistent; clock = r-settings-command .clock; policy = r-settings-command .policy; logs = h .logs; poison = h .poison }) (mach (record { volatile = h .volatile; persistent = h .persistent; clock = r-settings-command .clock; policy = r-settings-command .policy; logs = h .logs; poison = h .poison }) ∷ []) (LL.owes DeviceT.the-type DeviceL.the-laws (record { volatile = h .volatile; persistent = h .persistent; clock = r-settings-command .clock; policy = r-settings-command .policy; logs = h .logs; poison = h .poison }) ((refl, LL.owed DeviceT.the-type DeviceL.the-laws h _ was-3 .0 .1), ((refl, LL.owed DeviceT.the-type DeviceL.the-laws h _ was-3 .1 .0 .1), (LL.owed SettingsPartsT.the-type SettingsPartsL.the-laws r-settings-command _ i-settings-command .1 .1 .0, (LL.owed SettingsPartsT.the-type SettingsPartsL.the-laws r-settings-command _ i-settings-command .1 .1 .1 .0, (LL.owed DeviceT.the-type DeviceL.the-laws h _ was-3 .1 .1 .1 .1 .0, (LL.owed DeviceT.the-type DeviceL.the-laws h _ was-3 .1 .1 .1 .1 .1 .0, tt))))))) $
+        move ! (4 ∷ []) $ use1 W (‵ (cellAt fullShare (DeviceT.the-row .mir) (mach (record { volatile = h .volatile; persistent = h .persistent; clock = r-settings-command .clock; policy = r-settings-command .policy; logs = h .logs; poison = h .poison }) ∷ []) b o)) (W .laws .at-raw fullShare DeviceL.mir b o (mach (record { volatile = h .volatile; persistent = h .persistent; clock = r-settings-command .clock; policy = r-settings-command .policy; logs = h .logs; poison = h .poison }))) $ owned ! DeviceT.the-row (Is DeviceT.the-row) ((LL.makes DeviceT.the-type DeviceL.the-plain) 𝓤 H A) (record { volatile = h .volatile; persistent = h .persistent; clock = r-settings-command .clock; policy = r-settings-command .policy; logs = h .logs; poison = h .poison }) (mach (record { volatile = h .volatile; persistent = h .persistent; clock = r-settings-command .clock; policy = r-settings-command .policy; logs = h .logs; poison = h .poison }) ∷ []) (put-policy (record { volatile = h .volatile; persistent = h .persistent; clock = r-settings-command .clock; policy = h .policy; logs = h .logs; poison = h .poison }) (put-clock h was-3 (r-settings-command .clock) (LL.owed SettingsPartsT.the-type SettingsPartsL.the-laws r-settings-command _ i-settings-command .1 .1 .0)) (r-settings-command .policy) (LL.owed SettingsPartsT.the-type SettingsPartsL.the-laws r-settings-command _ i-settings-command .1 .1 .1 .0)) $
         move ! (1 ∷ 0 ∷ 6 ∷ 7 ∷ 8 ∷ []) $ closes ! tt DeviceT.the-row (record { volatile = h .volatile; persistent = h .persistent; clock = r-settings-command .clock; policy = r-settings-command .policy; logs = h .logs; poison = h .poison }) (mach (record { volatile = h .volatile; persistent = h .persistent; clock = r-settings-command .clock; policy = r-settings-command .policy; logs = h .logs; poison = h .poison }) ∷ []) b o $
         returns-within ! Post refl (look ! 69 refl) $ forget ! 7 refl $ forget ! 9 refl $ forget ! 11 refl $ forget ! 13 refl $ forget ! 15 refl $ forget ! 17 refl $ forget ! 35 refl $ forget ! 49 refl $ forget ! 51 refl $ forget ! 59 refl $ forget ! 61 refl $ forget ! 63 refl $ forget ! 65 refl $ forget ! 67 refl $ forget ! 69 refl $
         move ! (69 ∷ 70 ∷ 67 ∷ 68 ∷ 65 ∷ 66 ∷ 63 ∷ 64 ∷ 61 ∷ 62 ∷ 59 ∷ 60 ∷ 57 ∷ 58 ∷ 55 ∷ 56 ∷ 53 ∷ 54 ∷ 51 ∷ 52 ∷ 49 ∷ 50 ∷ 47 ∷ 48 ∷ 45 ∷ 46 ∷ 43 ∷ 44 ∷ 41 ∷ 42 ∷ 39 ∷ 40 ∷ 37 ∷ 38 ∷ 35 ∷ 36 ∷ 33 ∷ 34 ∷ 31 ∷ 32 ∷ 29 ∷ 30 ∷ 27 ∷ 28 ∷ 25 ∷ 26 ∷ 23 ∷ 24 ∷ 21 ∷ 22 ∷ 19 ∷ 20 ∷ 17 ∷ 18 ∷ 15 ∷ 16 ∷ 13 ∷ 14 ∷ 11 ∷ 12 ∷ 9 ∷ 10 ∷ 7 ∷ 8 ∷ []) $ free-all ! $

@@ -51,6 +51,7 @@ use Rattle.mailbox.proofs.device.Device.Laws as DeviceL
 use Rattle.embed.specs.declared.Event.{Event}
 use Rattle.embed.proofs.Event as EventT
 use Rattle.embed.proofs.Event.Laws as EventL
+use Rattle.events.specs.declared.log.Log.{Log}
 use Rattle.events.proofs.log.Log as LogT
 use Rattle.events.proofs.log.Log.Laws as LogL
 use Rattle.mailbox.specs.declared.by_parts.EventParts.{EventParts}
@@ -110,6 +111,10 @@ module _ {M : Type 1} (𝓤 : URA M) (H : Heap 𝓤) (A : Atoms 𝓤) (W : Given
 
   abbrev Post : Val → SProp 𝓤
   Post = walkOf 𝓤 H A f.ended stayed (f.clauses 𝓤 H A at-mem run) .post (((κ0, (κ1, tt)), (q0, (q1, tt)), tt, x, at), tt)
+
+  -- a device with another part is one
+  put-logs : (d : Device) → Is DeviceT.the-row d (mach d ∷ []) → (i : ℕ) (x : Log) → Is LogT.the-row x (LL.val LogT.the-type LogL.the-laws x ∷ []) → Is DeviceT.the-row (record { volatile = d .volatile; persistent = d .persistent; clock = d .clock; policy = d .policy; logs = set (d .logs) i x; poison = d .poison }) (mach (record { volatile = d .volatile; persistent = d .persistent; clock = d .clock; policy = d .policy; logs = set (d .logs) i x; poison = d .poison }) ∷ [])
+  put-logs d was i x is = let owed = LL.owed DeviceT.the-type DeviceL.the-laws d _ was in LL.owes DeviceT.the-type DeviceL.the-laws (record { volatile = d .volatile; persistent = d .persistent; clock = d .clock; policy = d .policy; logs = set (d .logs) i x; poison = d .poison }) (owed .0, (owed .1 .0, (owed .1 .1 .0, (owed .1 .1 .1 .0, (with-element LogT.the-type LogL.the-laws 5 (d .logs) _ (owed .1 .1 .1 .1 .0) i x is, (owed .1 .1 .1 .1 .1 .0, tt))))))
 
   -- what each call binds, and that the caller has what it asks
   abbrev to-log-at : C-log-at 𝓤 H A at-mem run .Ghost
@@ -181,7 +186,7 @@ module _ {M : Type 1} (𝓤 : URA M) (H : Heap 𝓤) (A : Atoms 𝓤) (W : Given
         assigns ! (agg ! (and-then ! (load ! (from ! (fld ! refl (stop !))) (look-in ! 20 (sub ! 0 refl (whole !)))) (and-then ! (load ! (from ! (fld ! refl (stop !))) (look-in ! 20 (sub ! 1 refl (whole !)))) (no-more !)))) (from ! (stop !)) (init ! 32 refl (tt, (record { fits = LL.owed EventPartsT.the-type EventPartsL.the-laws r-event-report-in _ i-event-report-in .0 .1 }, (tt, tt)))) $
         -- return
         -- the borrow is closed
-        move ! (2 ∷ []) $ use1 W (‵ (cellAt fullShare (DeviceT.the-row .mir) (mach (record { volatile = h .volatile; persistent = h .persistent; clock = h .clock; policy = h .policy; logs = set (h .logs) r-log-at (r-event-report-in .log); poison = h .poison }) ∷ []) b o)) (W .laws .at-raw fullShare DeviceL.mir b o (mach (record { volatile = h .volatile; persistent = h .persistent; clock = h .clock; policy = h .policy; logs = set (h .logs) r-log-at (r-event-report-in .log); poison = h .poison }))) $ owned ! DeviceT.the-row (Is DeviceT.the-row) ((LL.makes DeviceT.the-type DeviceL.the-plain) 𝓤 H A) (record { volatile = h .volatile; persistent = h .persistent; clock = h .clock; policy = h .policy; logs = set (h .logs) r-log-at (r-event-report-in .log); poison = h .poison }) (mach (record { volatile = h .volatile; persistent = h .persistent; clock = h .clock; policy = h .policy; logs = set (h .logs) r-log-at (r-event-report-in .log); poison = h .poison }) ∷ []) (LL.owes DeviceT.the-type DeviceL.the-laws (record { volatile = h .volatile; persistent = h .persistent; clock = h .clock; policy = h .policy; logs = set (h .logs) r-log-at (r-event-report-in .log); poison = h .poison }) ((refl, LL.owed DeviceT.the-type DeviceL.the-laws h _ was .0 .1), ((refl, LL.owed DeviceT.the-type DeviceL.the-laws h _ was .1 .0 .1), (LL.owed DeviceT.the-type DeviceL.the-laws h _ was .1 .1 .0, (LL.owed DeviceT.the-type DeviceL.the-laws h _ was .1 .1 .1 .0, (with-element LogT.the-type LogL.the-laws 5 (h .logs) _ (LL.owed DeviceT.the-type DeviceL.the-laws h _ was .1 .1 .1 .1 .0) r-log-at (r-event-report-in .log) (LL.owed EventPartsT.the-type EventPartsL.the-laws r-event-report-in _ i-event-report-in .1 .1 .0), (LL.owed DeviceT.the-type DeviceL.the-laws h _ was .1 .1 .1 .1 .1 .0, tt))))))) $
+        move ! (2 ∷ []) $ use1 W (‵ (cellAt fullShare (DeviceT.the-row .mir) (mach (record { volatile = h .volatile; persistent = h .persistent; clock = h .clock; policy = h .policy; logs = set (h .logs) r-log-at (r-event-report-in .log); poison = h .poison }) ∷ []) b o)) (W .laws .at-raw fullShare DeviceL.mir b o (mach (record { volatile = h .volatile; persistent = h .persistent; clock = h .clock; policy = h .policy; logs = set (h .logs) r-log-at (r-event-report-in .log); poison = h .poison }))) $ owned ! DeviceT.the-row (Is DeviceT.the-row) ((LL.makes DeviceT.the-type DeviceL.the-plain) 𝓤 H A) (record { volatile = h .volatile; persistent = h .persistent; clock = h .clock; policy = h .policy; logs = set (h .logs) r-log-at (r-event-report-in .log); poison = h .poison }) (mach (record { volatile = h .volatile; persistent = h .persistent; clock = h .clock; policy = h .policy; logs = set (h .logs) r-log-at (r-event-report-in .log); poison = h .poison }) ∷ []) (put-logs h was r-log-at (r-event-report-in .log) (LL.owed EventPartsT.the-type EventPartsL.the-laws r-event-report-in _ i-event-report-in .1 .1 .0)) $
         move ! (1 ∷ 0 ∷ 4 ∷ 5 ∷ 6 ∷ []) $ closes ! tt DeviceT.the-row (record { volatile = h .volatile; persistent = h .persistent; clock = h .clock; policy = h .policy; logs = set (h .logs) r-log-at (r-event-report-in .log); poison = h .poison }) (mach (record { volatile = h .volatile; persistent = h .persistent; clock = h .clock; policy = h .policy; logs = set (h .logs) r-log-at (r-event-report-in .log); poison = h .poison }) ∷ []) b o $
         returns ! (look ! 31 refl) $ forget ! 5 refl $ forget ! 7 refl $ forget ! 9 refl $ forget ! 11 refl $ forget ! 13 refl $ forget ! 15 refl $ forget ! 17 refl $ forget ! 19 refl $ forget ! 21 refl $ forget ! 23 refl $ forget ! 25 refl $ forget ! 27 refl $ forget ! 29 refl $ forget ! 31 refl $
         move ! (31 ∷ 32 ∷ 29 ∷ 30 ∷ 27 ∷ 28 ∷ 25 ∷ 26 ∷ 23 ∷ 24 ∷ 21 ∷ 22 ∷ 19 ∷ 20 ∷ 17 ∷ 18 ∷ 15 ∷ 16 ∷ 13 ∷ 14 ∷ 11 ∷ 12 ∷ 9 ∷ 10 ∷ 7 ∷ 8 ∷ 5 ∷ 6 ∷ []) $ free-all ! $

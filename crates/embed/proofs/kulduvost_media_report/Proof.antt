@@ -51,6 +51,7 @@ use Rattle.embed.proofs.Media.Laws as MediaL
 use Rattle.mailbox.specs.declared.by_parts.MediaParts.{MediaParts}
 use Rattle.mailbox.proofs.by_parts.MediaParts as MediaPartsT
 use Rattle.mailbox.proofs.by_parts.MediaParts.Laws as MediaPartsL
+use Rattle.poison.specs.declared.list.PoisonList.{PoisonList}
 use Rattle.poison.proofs.list.PoisonList as PoisonListT
 use Rattle.poison.proofs.list.PoisonList.Laws as PoisonListL
 use Rattle.mailbox.proofs.clock.Clock as ClockT
@@ -88,6 +89,10 @@ module _ {M : Type 1} (𝓤 : URA M) (H : Heap 𝓤) (A : Atoms 𝓤) (W : Given
 
   abbrev Post : Val → SProp 𝓤
   Post = walkOf 𝓤 H A f.ended stayed (f.clauses 𝓤 H A at-mem run) .post (((κ0, tt), (q0, tt), tt, x, at), tt)
+
+  -- a device with another part is one
+  put-poison : (d : Device) → Is DeviceT.the-row d (mach d ∷ []) → (x : PoisonList) → Is PoisonListT.the-row x (LL.val PoisonListT.the-type PoisonListL.the-laws x ∷ []) → Is DeviceT.the-row (record { volatile = d .volatile; persistent = d .persistent; clock = d .clock; policy = d .policy; logs = d .logs; poison = x }) (mach (record { volatile = d .volatile; persistent = d .persistent; clock = d .clock; policy = d .policy; logs = d .logs; poison = x }) ∷ [])
+  put-poison d was x is = let owed = LL.owed DeviceT.the-type DeviceL.the-laws d _ was in LL.owes DeviceT.the-type DeviceL.the-laws (record { volatile = d .volatile; persistent = d .persistent; clock = d .clock; policy = d .policy; logs = d .logs; poison = x }) (owed .0, (owed .1 .0, (owed .1 .1 .0, (owed .1 .1 .1 .0, (owed .1 .1 .1 .1 .0, (is, tt))))))
 
   -- what each call binds, and that the caller has what it asks
   abbrev to-media-report-in : C-media-report-in 𝓤 H A at-mem run .Ghost
@@ -135,7 +140,7 @@ module _ {M : Type 1} (𝓤 : URA M) (H : Heap 𝓤) (A : Atoms 𝓤) (W : Given
         assigns ! (agg ! (and-then ! (load ! (from ! (fld ! refl (stop !))) (look-in ! 12 (sub ! 0 refl (whole !)))) (and-then ! (load ! (from ! (fld ! refl (stop !))) (look-in ! 12 (sub ! 1 refl (whole !)))) (and-then ! (load ! (from ! (fld ! refl (stop !))) (look-in ! 12 (sub ! 2 refl (whole !)))) (no-more !))))) (from ! (stop !)) (init ! 24 refl (tt, (record { fits = LL.owed MediaPartsT.the-type MediaPartsL.the-laws r-media-report-in _ i-media-report-in .0 .1 }, (record { fits = LL.owed MediaPartsT.the-type MediaPartsL.the-laws r-media-report-in _ i-media-report-in .1 .0 .1 }, (record { fits = LL.owed MediaPartsT.the-type MediaPartsL.the-laws r-media-report-in _ i-media-report-in .1 .1 .0 .1 }, tt))))) $
         -- return
         -- the borrow is closed
-        move ! (0 ∷ []) $ use1 W (‵ (cellAt fullShare (DeviceT.the-row .mir) (mach (record { volatile = h .volatile; persistent = h .persistent; clock = h .clock; policy = h .policy; logs = h .logs; poison = r-media-report-in .list }) ∷ []) b o)) (W .laws .at-raw fullShare DeviceL.mir b o (mach (record { volatile = h .volatile; persistent = h .persistent; clock = h .clock; policy = h .policy; logs = h .logs; poison = r-media-report-in .list }))) $ owned ! DeviceT.the-row (Is DeviceT.the-row) ((LL.makes DeviceT.the-type DeviceL.the-plain) 𝓤 H A) (record { volatile = h .volatile; persistent = h .persistent; clock = h .clock; policy = h .policy; logs = h .logs; poison = r-media-report-in .list }) (mach (record { volatile = h .volatile; persistent = h .persistent; clock = h .clock; policy = h .policy; logs = h .logs; poison = r-media-report-in .list }) ∷ []) (LL.owes DeviceT.the-type DeviceL.the-laws (record { volatile = h .volatile; persistent = h .persistent; clock = h .clock; policy = h .policy; logs = h .logs; poison = r-media-report-in .list }) ((refl, LL.owed DeviceT.the-type DeviceL.the-laws h _ was .0 .1), ((refl, LL.owed DeviceT.the-type DeviceL.the-laws h _ was .1 .0 .1), (LL.owed DeviceT.the-type DeviceL.the-laws h _ was .1 .1 .0, (LL.owed DeviceT.the-type DeviceL.the-laws h _ was .1 .1 .1 .0, (LL.owed DeviceT.the-type DeviceL.the-laws h _ was .1 .1 .1 .1 .0, (LL.owed MediaPartsT.the-type MediaPartsL.the-laws r-media-report-in _ i-media-report-in .1 .1 .1 .0, tt))))))) $
+        move ! (0 ∷ []) $ use1 W (‵ (cellAt fullShare (DeviceT.the-row .mir) (mach (record { volatile = h .volatile; persistent = h .persistent; clock = h .clock; policy = h .policy; logs = h .logs; poison = r-media-report-in .list }) ∷ []) b o)) (W .laws .at-raw fullShare DeviceL.mir b o (mach (record { volatile = h .volatile; persistent = h .persistent; clock = h .clock; policy = h .policy; logs = h .logs; poison = r-media-report-in .list }))) $ owned ! DeviceT.the-row (Is DeviceT.the-row) ((LL.makes DeviceT.the-type DeviceL.the-plain) 𝓤 H A) (record { volatile = h .volatile; persistent = h .persistent; clock = h .clock; policy = h .policy; logs = h .logs; poison = r-media-report-in .list }) (mach (record { volatile = h .volatile; persistent = h .persistent; clock = h .clock; policy = h .policy; logs = h .logs; poison = r-media-report-in .list }) ∷ []) (put-poison h was (r-media-report-in .list) (LL.owed MediaPartsT.the-type MediaPartsL.the-laws r-media-report-in _ i-media-report-in .1 .1 .1 .0)) $
         move ! (1 ∷ 0 ∷ 2 ∷ 3 ∷ 4 ∷ []) $ closes ! tt DeviceT.the-row (record { volatile = h .volatile; persistent = h .persistent; clock = h .clock; policy = h .policy; logs = h .logs; poison = r-media-report-in .list }) (mach (record { volatile = h .volatile; persistent = h .persistent; clock = h .clock; policy = h .policy; logs = h .logs; poison = r-media-report-in .list }) ∷ []) b o $
         returns ! (look ! 23 refl) $ forget ! 3 refl $ forget ! 5 refl $ forget ! 7 refl $ forget ! 9 refl $ forget ! 11 refl $ forget ! 13 refl $ forget ! 15 refl $ forget ! 17 refl $ forget ! 19 refl $ forget ! 21 refl $ forget ! 23 refl $
         move ! (23 ∷ 24 ∷ 21 ∷ 22 ∷ 19 ∷ 20 ∷ 17 ∷ 18 ∷ 15 ∷ 16 ∷ 13 ∷ 14 ∷ 11 ∷ 12 ∷ 9 ∷ 10 ∷ 7 ∷ 8 ∷ 5 ∷ 6 ∷ 3 ∷ 4 ∷ []) $ free-all ! $
