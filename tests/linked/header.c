@@ -71,7 +71,7 @@ static void mailbox(kulduvost_device *device) {
            "a reply buffer that is too small");
     expect(kulduvost_command(device, 0x7777, payload, sizeof payload, 0, reply, sizeof reply).code == KULDUVOST_INVALID_PAYLOAD_LENGTH,
            "a payload that is too long");
-    expect(kulduvost_command(device, 0x7777, payload, sizeof payload - 1, 0, reply, sizeof reply).code == KULDUVOST_UNSUPPORTED,
+    expect(kulduvost_command(device, 0x7777, payload, sizeof payload - 1, 0, reply, sizeof reply).code == KULDUVOST_UNSUPPORTED_OPCODE,
            "an opcode that is not one of the twelve");
     expect(kulduvost_command(device, KULDUVOST_GET_LOG, payload, 24, 0, reply, sizeof reply).code == KULDUVOST_INVALID_LOG,
            "another log identifier");
