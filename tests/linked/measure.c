@@ -1,18 +1,17 @@
 /*
- * measure              what each call of the library costs, as a Markdown table: nanoseconds (the least of many runs) and the deepest
- *                      byte of stack that it writes
+ * measure              how long each call of the library takes, as a Markdown table: nanoseconds, the least of many runs (stack.c has
+ *                      the stack)
  * measure KIND TIMES   makes the calls of one kind that many times, for callgrind to count; KIND is a name of the table
  *
  * Beside the line test stands the same test in plain C, over the same arrays of the same device. For that alone this program knows where
  * the poison list lies in a device (crates/embed/proofs/Header.antt); a caller has no business there.
  */
-#define _DEFAULT_SOURCE
+#define _POSIX_C_SOURCE 199309L
 #include "kulduvost.h"
 #include <stdio.h>
 #include <stdlib.h>
 #include <string.h>
 #include <time.h>
-#include <ucontext.h>
 
 enum { ROUNDS = 15 };
 
@@ -275,55 +274,21 @@ static double least_of_runs(const struct kind *kind, int runs, double overhead) 
     return least;
 }
 
-/* ---- Stack: the call runs on a stack of its own that is filled with a pattern; the deepest byte changed tells */
-enum { STACK = 128 * 1024 };
-static uint8_t stack[STACK] __attribute__((aligned(16)));
-static ucontext_t here, there;
-static void (*on_stack)(void);
-static const uint8_t *top;
-
-static uint8_t paint(size_t i) { return (uint8_t)(i * 167 + (i >> 8) * 13 + 90); }
-
-static void enter(void) {
-    top = __builtin_frame_address(0);
-    on_stack();
-}
-
-static size_t deepest(void (*call)(void)) {
-    for (size_t i = 0; i < STACK; i++) {
-        stack[i] = paint(i);
-    }
-    on_stack = call;
-    getcontext(&there);
-    there.uc_stack.ss_sp = stack;
-    there.uc_stack.ss_size = STACK;
-    there.uc_link = &here;
-    makecontext(&there, enter, 0);
-    swapcontext(&here, &there);
-    size_t i = 0;
-    while (i < STACK && stack[i] == paint(i)) {
-        i++;
-    }
-    return (size_t)(top - (stack + i));
-}
-
 /* ---- The two ways to run it */
 /* All kinds in turn, several rounds: what else the machine does meanwhile hits all of them alike. */
 static void table(void) {
     static double least[KINDS];
-    static size_t depth[KINDS];
     double overhead = clock_alone();
     for (int round = 0; round < ROUNDS; round++) {
         for (size_t k = 0; k < KINDS; k++) {
             prepare(&kinds[k]);
-            depth[k] = deepest(kinds[k].call); /* the first round also resolves what the linker left open */
             double took = least_of_runs(&kinds[k], kinds[k].calls == MANY ? 10 : 2000, overhead);
             least[k] = round == 0 || took < least[k] ? took : least[k];
         }
     }
-    printf("| Call | ns | stack, bytes |\n|---|---|---|\n");
+    printf("| Call | ns |\n|---|---|\n");
     for (size_t k = 0; k < KINDS; k++) {
-        printf("| %s | %.1f | %zu |\n", kinds[k].name, least[k], depth[k] - depth[0]);
+        printf("| %s | %.1f |\n", kinds[k].name, least[k]);
     }
 }
 
