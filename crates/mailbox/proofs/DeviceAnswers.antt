@@ -10,7 +10,7 @@ use borrow.Author.Tests.{ne-eqb, leb-true, eqb-true, le-leb, lt-leb, lt-ltb, le-
 use Rattle.poison.specs.State as P
 use Rattle.poison.specs.Report as R
 use Rattle.poison.specs.LineTest.{line-test as list-test}
-use Rattle.poison.specs.declared.report.Reported.{Reported as ListReported}
+use Rattle.poison.specs.declared.list.PoisonList.{PoisonList}
 use Rattle.poison.specs.declared.line_test.LineTest.{LineTest}
 use Rattle.poison.specs.declared.line_test.LineTest.the-variants.{Unknown}
 use Rattle.events.specs.Log.{states-of, blank}
@@ -132,17 +132,17 @@ module _ (d : Device) (time address n kind : ℕ) (v : ValidDevice d) where
       subst (λ (x : MediaOutcome). MediaDone x d (record { code = code; stored = 0; dropped = 0; device = d })) (sym (simp (sym e, ne-eqb _ _ f)))
       (record { code = refl; stored = refl; dropped = refl; next = refl; refused = λ g. refl; valid = v })
 
-  pub media-taken : (code now : ℕ) (a : ListReported) → code ≡ 0 → now ≡ device-time (d .clock) time → media-code (lines-of (state-of d)) address n kind ≡ 0
-      → R.Reports (d .poison) (line-of address) n kind now a
+  pub media-taken : (code now : ℕ) {s r : ℕ} {l : PoisonList} → code ≡ 0 → now ≡ device-time (d .clock) time → media-code (lines-of (state-of d)) address n kind ≡ 0
+      → R.Reports (d .poison) (line-of address) n kind now s r l
       → MediaDone (media-report (state-of d) time address n kind) d
       (record {
         code = code;
-        stored = a .stored;
-        dropped = a .dropped;
-        device = record { volatile = d .volatile; persistent = d .persistent; clock = d .clock; policy = d .policy; logs = d .logs; poison = a .list };
+        stored = s;
+        dropped = r;
+        device = record { volatile = d .volatile; persistent = d .persistent; clock = d .clock; policy = d .policy; logs = d .logs; poison = l };
       })
   unfolding media-report
-  media-taken code now a none t z done =
+  media-taken code now none t z done =
       record {
         code = none ∙ sym (ap (λ (x : MediaOutcome). x .code) taken);
         stored = done .stored ∙ sym (ap (λ (x : MediaOutcome). x .stored) taken);

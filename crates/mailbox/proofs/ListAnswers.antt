@@ -7,17 +7,15 @@ use native.Mathlib.Omega.{arith}
 use lib.ListN.{length, take, length-append, length-take}
 use borrow.Author.Tests.{ne-eqb}
 use Rattle.wire.specs.Wire.{field, splice}
-use Rattle.poison.specs.State.{PoisonState, capacity, ValidList, state-of}
+use Rattle.poison.specs.State.{PoisonState, capacity, entries-of, ValidList, ValidSlots, state-of}
 use Rattle.poison.specs.Inject.{injects, after-inject, Injects}
 use Rattle.poison.specs.Clear.{after-clear, Clears}
 use Rattle.poison.specs.Range.{sharing, records-bytes, Wrote}
 use Rattle.poison.specs.declared.list.PoisonList.{PoisonList}
-use Rattle.poison.specs.declared.inject.Injected.{Injected}
-use Rattle.poison.proofs.Laws.{valid-more, length-records}
+use Rattle.poison.proofs.Laws.{valid-more, slots-more, length-records}
 use Rattle.mailbox.specs.declared.outcome.Done.{Done}
-use Rattle.mailbox.specs.declared.poison_commands.ListChanged.{ListChanged}
 use Rattle.mailbox.specs.declared.device.Device.{Device}
-use Rattle.wire.specs.Returns.{success, inject-limit}
+use Rattle.wire.specs.Returns.{success, inject-limit, need}
 use Rattle.mailbox.specs.Numbers.{unit-lines, most-units, mailbox-size, poison-records}
 use Rattle.mailbox.specs.State as D
 use Rattle.mailbox.specs.State.{ValidDevice}
@@ -32,9 +30,9 @@ use Rattle.mailbox.proofs.Answers.{read-answer, change-answer, same-lis
 
 -- a command that changes the list, by its number and the list that follows
 pub list-done : {o : ListChange} {s : PoisonState} {lines code : ℕ} {l r : PoisonList} → o ≡ record { code = code; list = s } → state-of r ≡ s
-    → ((code ≡ 0 → ⊥) → r ≡ l) → ValidList lines r → ListDone o lines l (record { code = code; list = r })
+    → ((code ≡ 0 → ⊥) → r ≡ l) → ValidList lines r → ListDone o lines l code r
 list-done {o} {s} {lines} {code} {l} {r} e n f v =
-    subst (λ (x : ListChange). ListDone x lines l (record { code = code; list = r })) (sym e) (record { code = refl; list = n; refused = f; valid = v })
+    subst (λ (x : ListChange). ListDone x lines l code r) (sym e) (record { code = refl; list = n; refused = f; valid = v })
 
 module _ (lines : ℕ) (s : PoisonState) (p : List ℕ) where
   -- refused by the checks of the address
@@ -102,11 +100,11 @@ module _ (lines : ℕ) (l : PoisonList) (p : List ℕ) (address : ℕ) (e : addr
 
   module _ (v : ValidList lines l) where
     pub inject-refusal : (code : ℕ) → code ≡ line-code lines address → (code ≡ 0 → ⊥)
-        → ListDone (inject-poison lines (state-of l) p) lines l (record { code = code; list = l })
+        → ListDone (inject-poison lines (state-of l) p) lines l code l
     inject-refusal code h f = list-done (inject-refused lines (state-of l) p code (address-code code h) f) refl (λ g. refl) v
 
     pub clear-refusal : (time code : ℕ) → code ≡ line-code lines address → (code ≡ 0 → ⊥)
-        → ListDone (clear-poison lines (state-of l) p time) lines l (record { code = code; list = l })
+        → ListDone (clear-poison lines (state-of l) p time) lines l code l
     clear-refusal time code h f = list-done (clear-refused lines (state-of l) p code (address-code code h) f time) refl (λ g. refl) v
 
     module _ (z : line-code lines address ≡ 0) where
@@ -116,24 +114,21 @@ module _ (lines : ℕ) (l : PoisonList) (p : List ℕ) (address : ℕ) (e : addr
       below : line-of (field p 0 8) < lines
       below = line-inside lines (field p 0 8) at-field
 
-      module _ (r : Injected) (a : Injects l (line-of address) r) where
-        here : Injects l (line-of (field p 0 8)) r
-        here = subst (λ (x : ℕ). Injects l (line-of x) r) e a
+      pub inject-done : (b : Bool) (r : PoisonList) {code : ℕ} → Injects l (line-of address) b r → code ≡ need b inject-limit 0 → ListDone (inject-poison lines (state-of l) p) lines l code r
+      inject-done b r {code} a h = subst (λ (c : ℕ). ListDone (inject-poison lines (state-of l) p) lines l c r) (sym h) (go b here)
+        where
+          here : Injects l (line-of (field p 0 8)) b r
+          here = subst (λ (x : ℕ). Injects l (line-of x) b r) e a
 
-        either : (b : Bool) → r .done ≡ b
-            → state-of (r .list) ≡ cond b (after-inject (state-of l) (line-of (field p 0 8))) (state-of l)
-        either b d = here .state ∙ ap (λ (x : Bool). cond x (after-inject (state-of l) (line-of (field p 0 8))) (state-of l)) (sym (here .done) ∙ d)
+          either : (c : Bool) → injects (state-of l) (line-of (field p 0 8)) ≡ c → state-of r ≡ cond c (after-inject (state-of l) (line-of (field p 0 8))) (state-of l)
+          either c d = here .state ∙ ap (λ (x : Bool). cond x (after-inject (state-of l) (line-of (field p 0 8))) (state-of l)) d
 
-        pub inject-success : r .done ≡ true → ListDone (inject-poison lines (state-of l) p) lines l (record { code = success; list = r .list })
-        inject-success d =
-            list-done (inject-taken lines (state-of l) p at-field (sym (here .done) ∙ d)) (either true d) (λ f. absurd (f refl)) (here .valid lines v below)
-
-        pub inject-no-room : r .done ≡ false → ListDone (inject-poison lines (state-of l) p) lines l (record { code = inject-limit; list = r .list })
-        inject-no-room d =
-            list-done (inject-full lines (state-of l) p at-field (sym (here .done) ∙ d)) (either false d) (λ f. here .refused d) (here .valid lines v below)
+          go : (c : Bool) → Injects l (line-of (field p 0 8)) c r → ListDone (inject-poison lines (state-of l) p) lines l (need c inject-limit 0) r
+          go true i = list-done (inject-taken lines (state-of l) p at-field (sym (i .done))) (either true (sym (i .done))) (λ f. absurd (f refl)) (i .valid lines v below)
+          go false i = list-done (inject-full lines (state-of l) p at-field (sym (i .done))) (either false (sym (i .done))) (λ f. i .refused refl) (i .valid lines v below)
 
       pub clear-success : (time : ℕ) (r : PoisonList) → Clears l (line-of address) time r
-          → ListDone (clear-poison lines (state-of l) p time) lines l (record { code = success; list = r })
+          → ListDone (clear-poison lines (state-of l) p time) lines l success r
       clear-success time r a =
           let here = subst (λ (x : ℕ). Clears l (line-of x) time r) e a in
           list-done (clear-taken lines (state-of l) p at-field time) (here .state) (λ f. absurd (f refl)) (here .valid lines v)
@@ -146,33 +141,30 @@ module _ (lines : ℕ) (l : PoisonList) (p : List ℕ) (address : ℕ) (e : addr
         → Replied (get-poison-list lines (state-of l) p) (record { code = code; length = 0 }) before before
     get-refusal code h f = no-bytes (get-refused lines (state-of l) p code (h ∙ range-at) f)
 
-    pub get-reply : (found count : ℕ) {overflow : Bool} {time : ℕ} {before middle after : List ℕ} → range-code lines address n ≡ 0
-        → overflow ≡ state-of l .overflow → time ≡ state-of l .overflow-time
-        → Wrote l (line-of address) n poison-records 32 found before middle → count ≡ min poison-records found
-        → after ≡ splice 0 (list-header overflow time found count) middle → mailbox-size ≤ length before
+    pub get-reply : (found count : ℕ) {before middle after : List ℕ} → range-code lines address n ≡ 0
+        → Wrote (entries-of l) (line-of address) n poison-records 32 found before middle → count ≡ min poison-records found
+        → after ≡ splice 0 (list-header (l .overflow) (l .«overflow_time») found count) middle → mailbox-size ≤ length before
         → Replied (get-poison-list lines (state-of l) p) (record { code = success; length = 32 + 16 * count }) before after
-    get-reply found count {overflow} {time} {before} {middle} {after} z eo et w isc h room =
+    get-reply found count {before} {middle} {after} z w isc h room =
         let s = state-of l in
         let k = line-of (field p 0 8) in
-        let here : Wrote l k (field p 8 8) poison-records 32 found before middle
-        = subst (λ (x : ℕ). Wrote l k x poison-records 32 found before middle) m (subst (λ (x : ℕ). Wrote l (line-of x) n poison-records 32 found before middle) e w) in
+        let here : Wrote (s .entries) k (field p 8 8) poison-records 32 found before middle
+        = subst (λ (x : ℕ). Wrote (s .entries) k x poison-records 32 found before middle) m
+        (subst (λ (x : ℕ). Wrote (s .entries) (line-of x) n poison-records 32 found before middle) e w) in
         bytes-written (get-taken lines s p (sym range-at ∙ z)) (reply-length s k (field p 8 8) found count (here .number) isc)
-        (h ∙ ap₂ (λ (o : Bool) (t : ℕ). splice 0 (list-header o t found count) middle) eo et
-        ∙ ap (splice 0 (list-header (s .overflow) (s .overflow-time) found count)) (here .bytes)
-        ∙ reply-written s k (field p 8 8) found count (here .number) isc before room)
+        (h ∙ ap (splice 0 (list-header (s .overflow) (s .overflow-time) found count)) (here .bytes) ∙ reply-written s k (field p 8 8) found count (here .number) isc before room)
 
 -- ---- at the mailbox
--- a device of at most the most units has not too many lines, and its list is valid on them and, as the list's functions ask, on the largest device
+-- a device of at most the most units has not too many lines; its list is valid on the largest device, and the list's arrays, lent, on those lines
 module _ {units lines : ℕ} (few : units ≤ most-units) (e : lines ≡ unit-lines * units) where
   pub device-lines : lines ≤ capacity
   device-lines = omega (arith, few, e)
 
-  module _ {l : PoisonList} (v : ValidList (unit-lines * units) l) where
-    pub device-list : ValidList lines l
-    device-list = valid-more (omega arith) v
+  pub device-slots : {count : ℕ} {starts lengths kinds : List ℕ} → ValidSlots (unit-lines * units) count starts lengths kinds → ValidSlots lines count starts lengths kinds
+  device-slots = slots-more (omega (arith, e))
 
-    pub device-any : ValidList capacity l
-    device-any = valid-more device-lines device-list
+  pub device-any : {l : PoisonList} → ValidList (unit-lines * units) l → ValidList capacity l
+  device-any = valid-more (omega (arith, few))
 
 module _ (d : Device) (lines : ℕ) (v : ValidDevice d) (e : lines ≡ unit-lines * (d .volatile + d .persistent)) where
   pub list-read : (p : List ℕ) {r : Done} {before after : List ℕ} → Replied (get-poison-list lines (state-of (d .poison)) p) r before after
@@ -182,16 +174,16 @@ module _ (d : Device) (lines : ℕ) (v : ValidDevice d) (e : lines ≡ unit-line
       = subst (λ (n : ℕ). Replied (get-poison-list n (state-of (d .poison)) p) r before after) e a in
       read-answer v (b .code) (b .size) (b .bytes)
 
-  pub list-change : {o o′ : ListChange} {r : ListChanged} {before : List ℕ} → o ≡ o′ → ListDone o lines (d .poison) r
+  pub list-change : {o o′ : ListChange} {code : ℕ} {r : PoisonList} {before : List ℕ} → o ≡ o′ → ListDone o lines (d .poison) code r
       → Answered (changes-list (D.state-of d) o′) d
       (record {
-        code = r .code;
+        code = code;
         length = 0;
-        device = record { volatile = d .volatile; persistent = d .persistent; clock = d .clock; policy = d .policy; logs = d .logs; poison = r .list };
+        device = record { volatile = d .volatile; persistent = d .persistent; clock = d .clock; policy = d .policy; logs = d .logs; poison = r };
       })
       before before
-  list-change {o} {o′} {r} s a =
-      change-answer (valid-device d _ _ _ _ v (v .logs) (subst (λ (n : ℕ). ValidList n (r .list)) e (a .valid)))
+  list-change {o} {o′} {code} {r} s a =
+      change-answer (valid-device d _ _ _ _ v (v .logs) (subst (λ (n : ℕ). ValidList n r) e (a .valid)))
       (a .code ∙ ap (λ (x : ListChange). x .code) s)
       (ap (D.with-poison (D.state-of d)) (a .list ∙ ap (λ (x : ListChange). x .list) s))
       (λ f. same-list d (a .refused f))

@@ -12,7 +12,6 @@ use Rattle.poison.specs.LineTest.{answer-number, answer-type}
 use Rattle.events.specs.declared.status.Status.{Status}
 use Rattle.events.specs.Status.{StatusOutcome}
 use Rattle.mailbox.specs.declared.outcome.Done.{Done}
-use Rattle.mailbox.specs.declared.poison_commands.ListChanged.{ListChanged}
 use Rattle.mailbox.specs.declared.device.Device.{Device}
 use Rattle.mailbox.specs.declared.device.Made.{Made}
 use Rattle.mailbox.specs.declared.device.Answer.{Answer}
@@ -30,12 +29,12 @@ pub record Replied (o : Reply) (r : Done) (before after : List ℕ) : Type 0 whe
   pub size : r .length ≡ length (o .bytes)
   pub bytes : after ≡ splice 0 (o .bytes) before
 
--- a command that changes the poison list; a refusal hands back the very same list
-pub record ListDone (o : ListChange) (lines : ℕ) (l : PoisonList) (r : ListChanged) : Type 0 where
-  pub code : r .code ≡ o .code
-  pub list : P.state-of (r .list) ≡ o .list
-  pub refused : (r .code ≡ success → ⊥) → r .list ≡ l
-  pub valid : P.ValidList lines (r .list)
+-- a command that changes the poison list, by its return number c and the list r that it leaves; a refusal leaves the very same list
+pub record ListDone (o : ListChange) (lines : ℕ) (l : PoisonList) (c : ℕ) (r : PoisonList) : Type 0 where
+  pub code : c ≡ o .code
+  pub list : P.state-of r ≡ o .list
+  pub refused : (c ≡ success → ⊥) → r ≡ l
+  pub valid : P.ValidList lines r
 
 -- `command`: number, length, next device, every byte of the buffer; the premise given back; a refusal hands back the very same device
 pub record Answered (o : Outcome) (d : Device) (r : Answer) (before after : List ℕ) : Type 0 where

@@ -1,7 +1,9 @@
 // The poison commands: the checks of an address, then the poison list's own functions (document 01, "Poison list"). No sum of an address and a
 // number of lines is made in 64 bits before it is known to fit: "Sums are of whole numbers."
 use crate::outcome::Done;
-use poison::list::PoisonList;
+use poison::clear;
+use poison::inject;
+use poison::range;
 use wire::returns;
 ghost use mathlib.Core.Path.{_≡_};
 ghost use mathlib.Core.Bool.{cond};
@@ -9,17 +11,19 @@ ghost use Prim.Native.Nat.{_+_, _≤_, _<_};
 ghost use lib.Dec.{eqb, leb, ltb};
 ghost use lib.ListN.{length};
 ghost use Rattle.wire.specs.Wire.{splice};
-ghost use Rattle.poison.specs.State.{capacity, ValidList, state-of};
-ghost use Rattle.wire.specs.Returns.{invalid-input, invalid-address, need};
+ghost use Rattle.poison.specs.State.{capacity, list-of, state-of, ValidSlots};
+ghost use Rattle.wire.specs.Returns.{invalid-input, invalid-address, inject-limit, need};
 ghost use Rattle.mailbox.specs.Numbers.{poison-records};
 ghost use Rattle.mailbox.specs.PoisonCommands.{aligned, line-code, range-code};
 ghost use Rattle.mailbox.specs.PoisonCommands.{list-flags, list-header, get-poison-list, inject-poison, clear-poison};
 ghost use Rattle.mailbox.specs.Contracts.{Replied, ListDone};
 
-// What a command that changes the list gives.
+// What a command that changes the list gives: its return number, and what it leaves of the list beside the arrays, which are changed where they lie.
 pub(crate) struct ListChanged {
     pub code: u16,
-    pub list: PoisonList,
+    pub count: usize,
+    pub overflow: bool,
+    pub since: u64,
 }
 
 // The first of two return numbers that refuses, 0 where none does: what is checked first decides.
@@ -77,46 +81,83 @@ pub(crate) fn check_range(lines: u32, address: u64, n: u64) -> u16
 }
 
 // Inject Poison.
-pub(crate) fn inject(list: PoisonList, lines: u32, payload: &[u8]) -> ListChanged
-    requires { ⌜ ValidList lines list × (lines ≤ capacity) × (length (now payload) ≡ 8) ⌝ }
-    ensures { λ r. ⌜ ListDone (inject-poison lines (state-of list) (now (payload .entry))) lines list r ⌝ }
+pub(crate) fn inject(
+    starts: &mut [u32; 256],
+    lengths: &mut [u32; 256],
+    kinds: &mut [u8; 256],
+    count: usize,
+    overflow: bool,
+    since: u64,
+    lines: u32,
+    payload: &[u8],
+) -> ListChanged
+    requires { ⌜ ValidSlots lines count (now starts) (now lengths) (now kinds) × (lines ≤ capacity) × (length (now payload) ≡ 8) ⌝ }
+    ensures { λ r. ⌜ ListDone (inject-poison lines (state-of (list-of (now (starts .entry)) (now (lengths .entry)) (now (kinds .entry)) count overflow since)) (now (payload .entry))) lines (list-of (now (starts .entry)) (now (lengths .entry)) (now (kinds .entry)) count overflow since) (r .code) (list-of (now (starts .exit)) (now (lengths .exit)) (now (kinds .exit)) (r .count) (r .overflow) (r .since)) ⌝ }
 {
     let address = wire::get(payload, 0, 8);
     let code = check_line(lines, address);
     if code != returns::SUCCESS {
-        return ListChanged { code, list };
+        return ListChanged {
+            code,
+            count,
+            overflow,
+            since,
+        };
     }
     let line = (address / 64) as u32;
-    let injected = list.inject(line);
-    let next = injected.list;
-    if injected.done {
-        ListChanged {
-            code: returns::SUCCESS,
-            list: next,
-        }
+    let injected = inject::inject_in(starts, lengths, kinds, count, line);
+    let code = inject_code(injected.done);
+    ListChanged {
+        code,
+        count: injected.count,
+        overflow,
+        since,
+    }
+}
+
+// The return number of an injection past the checks of its line.
+fn inject_code(done: bool) -> u16
+    ensures { λ r. ⌜ r ≡ need done inject-limit 0 ⌝ }
+{
+    if done {
+        returns::SUCCESS
     } else {
-        ListChanged {
-            code: returns::INJECT_LIMIT,
-            list: next,
-        }
+        returns::INJECT_LIMIT
     }
 }
 
 // Clear Poison, at a device time. The payload's data is the caller's to write.
-pub(crate) fn clear(list: PoisonList, lines: u32, payload: &[u8], time: u64) -> ListChanged
-    requires { ⌜ ValidList lines list × (lines ≤ capacity) × (length (now payload) ≡ 72) ⌝ }
-    ensures { λ r. ⌜ ListDone (clear-poison lines (state-of list) (now (payload .entry)) time) lines list r ⌝ }
+pub(crate) fn clear(
+    starts: &mut [u32; 256],
+    lengths: &mut [u32; 256],
+    kinds: &mut [u8; 256],
+    count: usize,
+    overflow: bool,
+    since: u64,
+    lines: u32,
+    payload: &[u8],
+    time: u64,
+) -> ListChanged
+    requires { ⌜ ValidSlots lines count (now starts) (now lengths) (now kinds) × (lines ≤ capacity) × (length (now payload) ≡ 72) ⌝ }
+    ensures { λ r. ⌜ ListDone (clear-poison lines (state-of (list-of (now (starts .entry)) (now (lengths .entry)) (now (kinds .entry)) count overflow since)) (now (payload .entry)) time) lines (list-of (now (starts .entry)) (now (lengths .entry)) (now (kinds .entry)) count overflow since) (r .code) (list-of (now (starts .exit)) (now (lengths .exit)) (now (kinds .exit)) (r .count) (r .overflow) (r .since)) ⌝ }
 {
     let address = wire::get(payload, 0, 8);
     let code = check_line(lines, address);
     if code != returns::SUCCESS {
-        return ListChanged { code, list };
+        return ListChanged {
+            code,
+            count,
+            overflow,
+            since,
+        };
     }
     let line = (address / 64) as u32;
-    let next = list.clear(line, time);
+    let cleared = clear::clear_in(starts, lengths, kinds, count, overflow, since, line, time);
     ListChanged {
         code: returns::SUCCESS,
-        list: next,
+        count: cleared.count,
+        overflow: cleared.overflow,
+        since: cleared.since,
     }
 }
 
@@ -162,9 +203,19 @@ fn time_shown(overflow: bool, time: u64) -> u64
 }
 
 // Get Poison List. The records are written first: that tells how many entries share a line with the range, which the header says.
-pub(crate) fn get(list: PoisonList, lines: u32, payload: &[u8], reply: &mut [u8]) -> Done
-    requires { ⌜ ValidList lines list × (lines ≤ capacity) × (length (now payload) ≡ 16) × (2048 ≤ length (now reply)) ⌝ }
-    ensures { λ r. ⌜ Replied (get-poison-list lines (state-of list) (now (payload .entry))) r (now (reply .entry)) (now (reply .exit)) ⌝ }
+pub(crate) fn get<'a>(
+    starts: &'a [u32; 256],
+    lengths: &'a [u32; 256],
+    kinds: &'a [u8; 256],
+    count: usize,
+    overflow: bool,
+    since: u64,
+    lines: u32,
+    payload: &[u8],
+    reply: &mut [u8],
+) -> Done
+    requires { ⌜ ValidSlots lines count (now starts) (now lengths) (now kinds) × (lines ≤ capacity) × (length (now payload) ≡ 16) × (2048 ≤ length (now reply)) ⌝ }
+    ensures { λ r. ⌜ Replied (get-poison-list lines (state-of (list-of (now (starts .entry)) (now (lengths .entry)) (now (kinds .entry)) count overflow since)) (now (payload .entry))) r (now (reply .entry)) (now (reply .exit)) ⌝ }
 {
     let address = wire::get(payload, 0, 8);
     let n = wire::get(payload, 8, 8);
@@ -172,14 +223,22 @@ pub(crate) fn get(list: PoisonList, lines: u32, payload: &[u8], reply: &mut [u8]
     if code != returns::SUCCESS {
         return Done { code, length: 0 };
     }
-    let overflow = list.overflowed();
-    let time = list.overflowed_at();
     let from = (address / 64) as u32;
-    let found = list.put_records(from, n as u32, 126, reply, 32);
-    let count = wire::least(126, found);
-    put_header(reply, overflow, time, found, count);
+    let found = range::put_records(
+        starts,
+        lengths,
+        kinds,
+        count,
+        from,
+        n as u32,
+        126,
+        reply,
+        32,
+    );
+    let number = wire::least(126, found);
+    put_header(reply, overflow, since, found, number);
     Done {
         code: returns::SUCCESS,
-        length: 32 + 16 * count,
+        length: 32 + 16 * number,
     }
 }

@@ -13,7 +13,7 @@ use lib.Seq.{set-split, take-at, drop-at}
 use Rattle.poison.specs.declared.list.PoisonList.{PoisonList}
 use Rattle.poison.specs.Runs.{Run, run, end, in-run, run-if-any, before, after, before-in, after-in, keeps, slots, some-run}
 use Rattle.poison.specs.State.{Entry, PoisonState, shape, entry, shapes, entries-of, state-of}
-use Rattle.poison.specs.List.{with-entries, InsertedAt, Flagged}
+use Rattle.poison.proofs.ListChanges.{with-entries, InsertedAt, Flagged}
 use Rattle.poison.proofs.ListChanges.{RemovedAt, ReplacedAt}
 use Rattle.poison.specs.Report.{with-drop}
 use Rattle.poison.specs.Search.{cover-at}

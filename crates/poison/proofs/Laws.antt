@@ -11,7 +11,7 @@ use borrow.Author.Tests.{ltb-true}
 use lib.ListN.{length, take, drop, take-append-drop, length-map, length-take}
 use Rattle.poison.specs.declared.list.PoisonList.{PoisonList}
 use Rattle.poison.specs.Runs.{Run, run, end, in-run, in-runs, count, Chain, cut, slots, uncovered, room, keeps, before, after}
-use Rattle.poison.specs.State.{Entry, PoisonState, shape, shapes, entry, covers, kind-at, insert-entry, insert-entries, entries-of, Typed, ValidList}
+use Rattle.poison.specs.State.{Entry, PoisonState, shape, shapes, entry, covers, kind-at, insert-entry, insert-entries, entries-of, Typed, ValidList, runs-in, ValidSlots}
 use Rattle.poison.specs.Report.{found, stored-runs, report-entries, lines-stored, lines-dropped, with-drop, after-report}
 use Rattle.poison.specs.Inject.{with-entry, injects, after-inject}
 use Rattle.poison.specs.Clear.{cut-entries, after-clear}
@@ -44,6 +44,10 @@ pub use Rattle.poison.proofs.Drops.{stored-first, dropped-when-full, Bo
 pub use Rattle.poison.proofs.Drops.{Flags, report-flags, inject-flags, clear-flags}
 -- `Sized`: the arrays of a list have 256 slots each. A valid list's arrays hold runs in order and apart (`ValidRuns`), as the functions over lent arrays ask.
 pub use Rattle.poison.proofs.Views.{Sized, valid-runs}
+-- The arrays of a valid list, lent, and the list that they make up with any flag and time.
+pub use Rattle.poison.proofs.Views.{valid-slots, slots-sized, slots-valid}
+-- Slots past the new last entry keep what they held (document 02, W-203).
+pub use Rattle.poison.proofs.Moves.{past-kept}
 -- The sum of the first `count` lengths is the damage total of the list.
 pub use Rattle.poison.proofs.ListChanges.{total-is}
 -- A line that a report stores has the report's type, one that an injection stores has type 3, one that a clearing leaves covered keeps its type.
@@ -198,6 +202,20 @@ typed-clear keep k (e ∷ es) t = go (in-run (shape e) k) (typed-clear keep k es
 -- A list that is valid on a device is valid on a larger one.
 pub valid-more : {n m : ℕ} {l : PoisonList} → n ≤ m → ValidList n l → ValidList m l
 valid-more {n} {m} {l} h v = record { few = v .few; chain = chain-higher 0 n m (shapes (entries-of l)) h (v .chain); typed = v .typed }
+
+pub slots-more : {n m count : ℕ} {starts lengths kinds : List ℕ} → n ≤ m → ValidSlots n count starts lengths kinds → ValidSlots m count starts lengths kinds
+slots-more {n} {m} {count} {starts} {lengths} h v =
+    record {
+      runs =
+          record {
+            few = v .runs .few;
+            starts-slots = v .runs .starts-slots;
+            lengths-slots = v .runs .lengths-slots;
+            chain = chain-higher 0 n m (runs-in count starts lengths) h (v .runs .chain);
+          };
+      kinds-slots = v .kinds-slots;
+      typed = v .typed;
+    }
 
 -- ---- entries are never merged
 -- an entry held before another is put in is still there after it

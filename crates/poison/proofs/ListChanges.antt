@@ -10,15 +10,35 @@ use lib.ListN.{length, take, drop, getD, set, length-map, length-set}
 use lib.Seq.{set-getD, take-set-lt}
 use Rattle.poison.specs.declared.list.PoisonList.{PoisonList}
 use Rattle.poison.specs.Runs.{Run, run, total}
-use Rattle.poison.specs.Shift.{zip, putAt, pullAt}
-use Rattle.poison.specs.State.{Entry, PoisonState, entry, shape, shapes, runs-in, entries-in, entries-of, state-of, insert-entry, damage-total, sum-of, total-in}
+use Rattle.poison.specs.Shift.{zip, putAt, pullAt, EntryPut, EntryTaken}
+use Rattle.poison.specs.State.{Entry, PoisonState, entry, shape, shapes, runs-in, entries-in, entries-of, list-of, state-of, insert-entry, damage-total, sum-of, total-in}
 use Rattle.poison.specs.Search.{place-of}
-use Rattle.poison.specs.List.{with-entries, InsertedAt, Inserted}
-use Rattle.poison.proofs.Moves.{take-put, drop-put, take-pull, first-le}
+use Rattle.poison.proofs.Moves.{take-put, length-put, take-pull, first-le}
 use Rattle.poison.proofs.Zips.{length-zip, zip-put, zip-pull, zip-set}
 use Rattle.poison.proofs.Views.{Sized, typed-as, same-lengths, same-kinds, shapes-of, length-entries}
 
--- ---- what `clear` does in place, by the view
+-- ---- what is done to a list in memory, by the view
+-- the list with other entries, flag and time as they were
+abbrev pub with-entries : PoisonState → List Entry → PoisonState
+with-entries s es = record { entries = es; overflow = s .overflow; overflow-time = s .overflow-time }
+
+-- r is l with an entry more at place `at`
+pub record InsertedAt (l : PoisonList) (at start lines kind : ℕ) (r : PoisonList) : Type 0 where
+  pub state : state-of r ≡ with-entries (state-of l) (take at (entries-of l) ++ (entry kind (run start lines) ∷ drop at (entries-of l)))
+  pub count : r .count ≡ l .count + 1
+  pub sized : Sized r
+
+-- r is l with an entry more, in its place in address order
+pub record Inserted (l : PoisonList) (start lines kind : ℕ) (r : PoisonList) : Type 0 where
+  pub state : state-of r ≡ with-entries (state-of l) (insert-entry (entry kind (run start lines)) (entries-of l))
+  pub count : r .count ≡ l .count + 1
+  pub sized : Sized r
+
+-- r is l after a drop at a time: the flag is set, and the first drop sets the overflow time
+pub record Flagged (l : PoisonList) (time : ℕ) (r : PoisonList) : Type 0 where
+  pub state : state-of r ≡ record { entries = entries-of l; overflow = true; overflow-time = cond (l .overflow) (l .«overflow_time») time }
+  pub count : r .count ≡ l .count
+
 -- r is l without the entry at place `at`
 pub record RemovedAt (l : PoisonList) (at : ℕ) (r : PoisonList) : Type 0 where
   pub state : state-of r ≡ with-entries (state-of l) (take at (entries-of l) ++ drop (at + 1) (entries-of l))
@@ -83,19 +103,19 @@ state-path a b c = λ i. record { entries = a i; overflow = b i; overflow-time =
 
 -- ---- lists in memory
 module _ (l : PoisonList) (sized : Sized l) where
-  pub inserted-at : (r : PoisonList) (at start lines kind : ℕ) → at ≤ l .count → l .count < 256 → r .starts ≡ putAt at (l .count) start (l .starts) → r .lengths ≡ putAt at (l .count) lines (l .lengths) → r .kinds ≡ putAt at (l .count) kind (l .kinds) → r .count ≡ l .count + 1 → r .overflow ≡ l .overflow → r .«overflow_time» ≡ l .«overflow_time» → InsertedAt l at start lines kind r
-  inserted-at r at start lines kind h k a b c d o t =
+  pub inserted-at : (r : PoisonList) (at start lines kind : ℕ) → at ≤ l .count → l .count < 256 → EntryPut at (l .count) start lines kind (l .starts) (l .lengths) (l .kinds) (r .starts) (r .lengths) (r .kinds) → r .count ≡ l .count + 1 → r .overflow ≡ l .overflow → r .«overflow_time» ≡ l .«overflow_time» → InsertedAt l at start lines kind r
+  inserted-at r at start lines kind h k p d o t =
       record {
         state =
             state-path
-            (rw (a, b, c, d) (entries-put (l .starts) (l .lengths) (l .kinds) (same-lengths l sized) (same-kinds l sized) at (l .count) start lines kind h (rw (sized .starts) k)))
+            (rw (p .starts, p .lengths, p .kinds, d) (entries-put (l .starts) (l .lengths) (l .kinds) (same-lengths l sized) (same-kinds l sized) at (l .count) start lines kind h (rw (sized .starts) k)))
             o t;
         count = d;
-        past =
+        sized =
             record {
-              starts = rw a (drop-put (l .starts) at (l .count) start h (rw (sized .starts) k));
-              lengths = rw b (drop-put (l .lengths) at (l .count) lines h (rw (sized .lengths) k));
-              kinds = rw c (drop-put (l .kinds) at (l .count) kind h (rw (sized .kinds) k));
+              starts = rw (p .starts) (length-put (l .starts) at (l .count) start h (rw (sized .starts) k) ∙ sized .starts);
+              lengths = rw (p .lengths) (length-put (l .lengths) at (l .count) lines h (rw (sized .lengths) k) ∙ sized .lengths);
+              kinds = rw (p .kinds) (length-put (l .kinds) at (l .count) kind h (rw (sized .kinds) k) ∙ sized .kinds);
             };
       }
 
@@ -115,18 +135,18 @@ module _ (l : PoisonList) (sized : Sized l) where
             ∙ sym (insert-is (entry kind (run start lines)) (entries-of l)))
             refl refl;
         count = i .count;
-        past = i .past;
+        sized = i .sized;
       }
 
-  pub removed-at : (r : PoisonList) (at : ℕ) → at < l .count → l .count ≤ 256 → r .starts ≡ pullAt at (l .count - 1) (l .starts) → r .lengths ≡ pullAt at (l .count - 1) (l .lengths) → r .kinds ≡ pullAt at (l .count - 1) (l .kinds) → r .count ≡ l .count - 1 → r .overflow ≡ l .overflow → r .«overflow_time» ≡ l .«overflow_time» → RemovedAt l at r
-  removed-at r at h k a b c d o t =
+  pub removed-at : (r : PoisonList) (at : ℕ) → at < l .count → l .count ≤ 256 → EntryTaken at (l .count - 1) (l .starts) (l .lengths) (l .kinds) (r .starts) (r .lengths) (r .kinds) → r .count ≡ l .count - 1 → r .overflow ≡ l .overflow → r .«overflow_time» ≡ l .«overflow_time» → RemovedAt l at r
+  removed-at r at h k p d o t =
       let n : l .count - 1 + 1 ≡ l .count = omega arith in
       let w : at ≤ l .count - 1 = omega arith in
       let u : l .count - 1 < 256 = omega arith in
       record {
         state =
             state-path
-            (rw (a, b, c, d) (entries-pull (l .starts) (l .lengths) (l .kinds) (same-lengths l sized) (same-kinds l sized) at (l .count - 1) w (rw (sized .starts) u))
+            (rw (p .starts, p .lengths, p .kinds, d) (entries-pull (l .starts) (l .lengths) (l .kinds) (same-lengths l sized) (same-kinds l sized) at (l .count - 1) w (rw (sized .starts) u))
             ∙ ap (λ (m : ℕ). take at (entries-in m (l .starts) (l .lengths) (l .kinds)) ++ drop (at + 1) (entries-in m (l .starts) (l .lengths) (l .kinds))) n)
             o t;
         count = d;
@@ -170,3 +190,7 @@ total-runs (suc n) (s ∷ starts) (m ∷ lengths) e = ap (λ (k : ℕ). m + k) (
 
 pub total-is : (l : PoisonList) (sized : Sized l) → total-in (l .count) (l .lengths) ≡ damage-total (state-of l)
 total-is l sized = sym (ap total (shapes-of l sized) ∙ total-runs (l .count) (l .starts) (l .lengths) (same-lengths l sized))
+
+-- ---- the flag set at a drop, with the time of the first
+pub flagged-since : (l : PoisonList) (time since : ℕ) → since ≡ cond (l .overflow) (l .«overflow_time») time → Flagged l time (list-of (l .starts) (l .lengths) (l .kinds) (l .count) true since)
+flagged-since l time since e = record { state = state-path refl refl e; count = refl }

@@ -85,8 +85,26 @@ module _ {A : Type 0} (l : List A) (at n : ℕ) (e : A) (h : at ≤ n) (k : n < 
   unfolding head
   take-put = rw put-split (take-at head (drop (n + 1) l) (n + 1) len-head ∙ rw (take-take at n l h, drop-take at n l))
 
-  pub drop-put : drop (n + 1) (putAt at n e l) ≡ drop (n + 1) l
-  drop-put = rw put-split (drop-at head (drop (n + 1) l) (n + 1) len-head)
+  pub length-put : length (putAt at n e l) ≡ length l
+  unfolding putAt
+  length-put = simp (length-append, length-take, length-drop) (omega arith)
+
+-- the slots past the new last element, after an insertion among the first n
+past-front : {A : Type 0} (n : ℕ) (l : List A) → drop n (take n l ++ drop (suc n) l) ≡ drop (suc n) l
+past-front zero l = refl
+past-front (suc n) [] = refl
+past-front (suc n) (x ∷ l) = past-front n l
+
+past-any : {A : Type 0} (l : List A) (at n : ℕ) (e : A) → at ≤ n → drop (suc n) (take at l ++ (e ∷ (take (n - at) (drop at l) ++ drop (suc n) l))) ≡ drop (suc n) l
+past-any l zero n e h = let z : n - 0 ≡ n = omega arith in rw z (past-front n l)
+past-any {A} [] (suc at) n e h = rw (take-nil (n - suc at)) (ap (λ (l : List A). drop n (l ++ [])) (sym (take-nil n)) ∙ past-front n [])
+past-any (x ∷ l) (suc at) zero e h = absurd (omega arith)
+past-any (x ∷ l) (suc at) (suc n) e h = let z : suc n - suc at ≡ n - at = omega arith in rw z (past-any l at n e (omega arith))
+
+-- "slots past the new last entry keep what they held" (document 02, W-203): of any slots, any number held and any element put in at a place among them
+pub past-kept : {A : Type 0} (l : List A) (at n : ℕ) (e : A) → at ≤ n → drop (n + 1) (putAt at n e l) ≡ drop (n + 1) l
+unfolding putAt
+past-kept l at n e h = rw (add-one n) (past-any l at n e h)
 
 -- ---- a search from the front, among the first n
 module _ {A : Type 0} (p : A → Bool) (d : A) where

@@ -156,9 +156,9 @@ module _ {n count : ℕ} {starts lengths : List ℕ} (v : ValidRuns n count star
   past-none i j e h f = f ∙ past-place 0 n k R (v .chain) (omega (arith, many))
 
 -- ---- a range of 0 lines: nothing is written
-pub wrote-none : (l : PoisonList) (a n limit at : ℕ) (xs : List ℕ) → n ≡ 0 → at ≤ length xs → Wrote l a n limit at 0 xs xs
-wrote-none l a n limit at xs e h =
-    let none : sharing a n (entries-of l) ≡ [] = rw e (none-in-none a (entries-of l)) in
+pub wrote-none : (es : List Entry) (a n limit at : ℕ) (xs : List ℕ) → n ≡ 0 → at ≤ length xs → Wrote es a n limit at 0 xs xs
+wrote-none es a n limit at xs e h =
+    let none : sharing a n es ≡ [] = rw e (none-in-none a es) in
     record { number = rw none; bytes = rw (none, take-nil limit) (sym (records-end at xs h)) }
 
 -- ---- an entry of a list in order, by its place
@@ -230,7 +230,7 @@ module _ (l : PoisonList) (sized : Sized l) (v : ValidList capacity l) (a n f p 
           }
 
   -- the answer and the bytes
-  pub wrote : (limit at r m : ℕ) (before after : List ℕ) → r ≡ p - f → m ≡ min (p - f) limit → after ≡ splice at (records-bytes (map (cut-to a n) (drop f (entries-in (f + m) (l .starts) (l .lengths) (l .kinds))))) before → Wrote l a n limit at r before after
+  pub wrote : (limit at r m : ℕ) (before after : List ℕ) → r ≡ p - f → m ≡ min (p - f) limit → after ≡ splice at (records-bytes (map (cut-to a n) (drop f (entries-in (f + m) (l .starts) (l .lengths) (l .kinds))))) before → Wrote (entries-of l) a n limit at r before after
   wrote limit at r m before after er em e =
       record {
         number = omega (arith, ap length (near .are), length-map (take (p - f) (drop f es)) (cut-to a n), length-take (p - f) (drop f es), length-drop f es, near, held);

@@ -6,7 +6,7 @@ use mathlib.Core.List.{List}
 use Prim.Native.Nat.{ℕ}
 use Rattle.poison.specs.Runs.{Run, some-run}
 use Rattle.poison.specs.State.{Entry, PoisonState}
-use Rattle.poison.specs.List.{with-entries}
+use Rattle.poison.proofs.ListChanges.{with-entries}
 use Rattle.poison.specs.Report.{with-drop}
 
 same-if : (b : Bool) (n : ℕ) → cond b n n ≡ n

@@ -13,7 +13,7 @@ use lib.Seq.{take-nil, drop-nil}
 use Rattle.poison.specs.declared.report.Stretch.{Stretch}
 use Rattle.poison.specs.Runs.{Run, run, in-run, in-runs, runs-of, uncovered, room, slots, some-run}
 use Rattle.poison.specs.State.{Entry, PoisonState, shape, shapes, entry, covers, insert-entry}
-use Rattle.poison.specs.List.{with-entries}
+use Rattle.poison.proofs.ListChanges.{with-entries}
 use Rattle.poison.specs.Report.{found, dropped-runs, report-entries, lines-stored, lines-dropped, after-report}
 use Rattle.poison.specs.Stretch.{Stretches}
 use Rattle.poison.proofs.Counts.{past-run}

@@ -1,49 +1,19 @@
 -- The code's media report on a list in memory: what its loop keeps, turn by turn, and what it answers at the end. Assumes nothing.
-use mathlib.Core.Path.{_≡_, ap, _∙_}
+use mathlib.Core.Path.{_≡_, _∙_}
 use mathlib.Core.Bool.{true, false}
-use mathlib.Core.List.{List}
 use Prim.Native.Nat.{ℕ, _+_, _-_, _≤_, _<_}
 use native.Mathlib.Omega.{arith}
-use lib.ListN.{length, drop, length-take, length-drop}
+use lib.ListN.{length}
 use Rattle.poison.specs.declared.list.PoisonList.{PoisonList}
 use Rattle.poison.specs.declared.report.Stretch.{Stretch}
-use Rattle.poison.specs.Runs.{run, slots}
-use Rattle.poison.specs.Shift.{zip}
-use Rattle.poison.specs.State.{PoisonState, entry, shapes, runs-in, entries-of, state-of, capacity, ValidList}
-use Rattle.poison.specs.List.{Inserted, Flagged}
+use Rattle.poison.specs.Runs.{slots}
+use Rattle.poison.specs.State.{shapes, runs-in, entries-of, state-of, capacity, ValidList}
+use Rattle.poison.proofs.ListChanges.{Inserted, Flagged}
 use Rattle.poison.specs.Report.{after-report, Reports}
 use Rattle.poison.specs.Stretch.{Stretches}
-use Rattle.poison.proofs.Zips.{zip-lengths}
-use Rattle.poison.proofs.Views.{Sized, typed-as, shapes-of, length-entries}
-use Rattle.poison.proofs.Shapes.{length-insert-entry}
+use Rattle.poison.proofs.Views.{Sized, shapes-of, length-entries}
 use Rattle.poison.proofs.Progress.{Progress, progress-start, progress-covered, progress-dropped, progress-stored, done-stored, done-dropped, done-flagged, done-quiet}
 use Rattle.poison.proofs.Validity.{valid-insert, valid-report}
-
--- ---- the arrays of a list with an entry more have 256 slots, as those of the list before: the entries and the slots past them say so
-same-slots : (xs ys : List ℕ) (n : ℕ) → n ≤ length xs → n ≤ length ys → drop n xs ≡ drop n ys → length xs ≡ length ys
-same-slots xs ys n h g e = omega (arith, length-drop n xs, length-drop n ys, ap length e)
-
-module _ (l r : PoisonList) (start lines kind : ℕ) (z : Sized l) (h : l .count < slots) (i : Inserted l start lines kind r) where
-  held : length (entries-of r) ≡ l .count + 1
-  held =
-      ap (λ (s : PoisonState). length (s .entries)) (i .state)
-      ∙ length-insert-entry (entry kind (run start lines)) (entries-of l)
-      ∙ omega (arith, length-entries l z (omega arith))
-
-  enough : (l .count + 1 ≤ length (r .starts)) × (l .count + 1 ≤ length (r .lengths)) × (l .count + 1 ≤ length (r .kinds))
-  enough =
-      let t = length-take (r .count) (zip typed-as (zip run (r .starts) (r .lengths)) (r .kinds)) in
-      let u = zip-lengths typed-as (zip run (r .starts) (r .lengths)) (r .kinds) in
-      let w = zip-lengths run (r .starts) (r .lengths) in
-      (omega (arith, held), omega (arith, held), omega (arith, held))
-
-  inserted-sized : Sized r
-  inserted-sized =
-      record {
-        starts = same-slots (r .starts) (l .starts) (l .count + 1) (enough .0) (omega (arith, z .starts)) (i .past .starts) ∙ z .starts;
-        lengths = same-slots (r .lengths) (l .lengths) (l .count + 1) (enough .1) (omega (arith, z .lengths)) (i .past .lengths) ∙ z .lengths;
-        kinds = same-slots (r .kinds) (l .kinds) (l .count + 1) (enough .2) (omega (arith, z .kinds)) (i .past .kinds) ∙ z .kinds;
-      }
 
 -- a report of n lines from a on has come to line `at`: the list before, the list now, the lines stored and dropped so far
 pub record Underway (before now : PoisonList) (a n kind at stored dropped : ℕ) : Type 0 where
@@ -90,7 +60,7 @@ module _ {l₀ l : PoisonList} {a n kind at stored dropped : ℕ} (u : Underway 
       let q = st .within in
       record {
         within = st .within;
-        sized = inserted-sized l r at (t .stop - at) kind (u .sized) less i;
+        sized = i .sized;
         valid =
             valid-insert l r (omega (arith, i .count)) capacity (u .valid) at (t .stop - at) kind i (omega arith) (omega arith) k
             (λ j v w. by-entries .same j v (omega arith) ∙ g);
@@ -99,7 +69,7 @@ module _ {l₀ l : PoisonList} {a n kind at stored dropped : ℕ} (u : Underway 
 
 -- ---- the end
 module _ {l₀ l : PoisonList} {a n kind at stored dropped : ℕ} (u : Underway l₀ l a n kind at stored dropped) (past : a + n ≤ at) (k : kind < 8) {time : ℕ} where
-  answers : (r : PoisonList) → r .count ≤ slots → state-of r ≡ after-report (state-of l₀) a n kind time → Reports l₀ a n kind time (record { list = r; stored = stored; dropped = dropped })
+  answers : (r : PoisonList) → r .count ≤ slots → state-of r ≡ after-report (state-of l₀) a n kind time → Reports l₀ a n kind time stored dropped r
   answers r few e =
       record {
         state = e;
@@ -109,11 +79,11 @@ module _ {l₀ l : PoisonList} {a n kind at stored dropped : ℕ} (u : Underway 
       }
 
   -- lines were dropped
-  pub answers-flagged : {r : PoisonList} → 0 < dropped → Flagged l time r → Reports l₀ a n kind time (record { list = r; stored = stored; dropped = dropped })
+  pub answers-flagged : {r : PoisonList} → 0 < dropped → Flagged l time r → Reports l₀ a n kind time stored dropped r
   answers-flagged {r} h f =
       answers r (omega (arith, f .count, u .valid .few))
       (f .state ∙ done-flagged (state-of l₀) (state-of l) a n kind at stored dropped (u .progress) past time h)
 
   -- none was
-  pub answers-quiet : dropped ≡ 0 → Reports l₀ a n kind time (record { list = l; stored = stored; dropped = dropped })
+  pub answers-quiet : dropped ≡ 0 → Reports l₀ a n kind time stored dropped l
   answers-quiet h = answers l (u .valid .few) (done-quiet (state-of l₀) (state-of l) a n kind at stored dropped (u .progress) past time h)

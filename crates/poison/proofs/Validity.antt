@@ -5,7 +5,7 @@ use Prim.Native.Nat.{ℕ, _+_, _≤_, _<_}
 use Rattle.poison.specs.declared.list.PoisonList.{PoisonList}
 use Rattle.poison.specs.Runs.{run, keeps, slots}
 use Rattle.poison.specs.State.{PoisonState, entry, shapes, covers, entries-of, state-of, insert-entry, ValidList}
-use Rattle.poison.specs.List.{Inserted}
+use Rattle.poison.proofs.ListChanges.{Inserted}
 use Rattle.poison.specs.Report.{report-entries, with-drop, after-report}
 use Rattle.poison.specs.Clear.{cut-entries, after-clear}
 use Rattle.poison.proofs.Laws.{chain-report, chain-insert-entry, chain-clear, typed-insert, typed-report, typed-clear}

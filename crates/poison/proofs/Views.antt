@@ -1,5 +1,6 @@
 -- A list in memory and its view: the entries and the runs that its arrays hold, by place; and what a valid list gives a search. Assumes nothing.
 use mathlib.Core.Path.{_≡_, refl, sym, ap, _∙_}
+use mathlib.Core.Bool.{Bool}
 use mathlib.Core.List.{List, [], _∷_}
 use Prim.Native.Nat.{ℕ, zero, suc, _≤_, _<_}
 use native.Mathlib.Omega.{arith}
@@ -8,7 +9,7 @@ use lib.Seq.{length-take-le, getD-take}
 use Rattle.poison.specs.declared.list.PoisonList.{PoisonList}
 use Rattle.poison.specs.Runs.{Run, run, slots}
 use Rattle.poison.specs.Shift.{zip}
-use Rattle.poison.specs.State.{Entry, shapes, entry, runs-in, entries-in, entries-of, ValidRuns, ValidList}
+use Rattle.poison.specs.State.{Entry, shapes, entry, runs-in, entries-in, entries-of, list-of, ValidRuns, ValidList, ValidSlots}
 use Rattle.poison.proofs.Zips.{length-zip, zip-getD}
 
 -- a run and a type as an entry
@@ -73,3 +74,14 @@ module _ (l : PoisonList) (sized : Sized l) where
 
   pub valid-runs : {n : ℕ} → ValidList n l → ValidRuns n (l .count) (l .starts) (l .lengths)
   valid-runs v = record { few = v .few; starts-slots = sized .starts; lengths-slots = sized .lengths; chain = rw (← shapes-of) (v .chain) }
+
+-- ---- the arrays of a valid list, lent, and the list that they make up with any flag and time
+pub valid-slots : (l : PoisonList) → Sized l → {n : ℕ} → ValidList n l → ValidSlots n (l .count) (l .starts) (l .lengths) (l .kinds)
+valid-slots l sized v = record { runs = valid-runs l sized v; kinds-slots = sized .kinds; typed = v .typed }
+
+module _ {n count : ℕ} {starts lengths kinds : List ℕ} (v : ValidSlots n count starts lengths kinds) (overflow : Bool) (time : ℕ) where
+  pub slots-sized : Sized (list-of starts lengths kinds count overflow time)
+  slots-sized = record { starts = v .runs .starts-slots; lengths = v .runs .lengths-slots; kinds = v .kinds-slots }
+
+  pub slots-valid : ValidList n (list-of starts lengths kinds count overflow time)
+  slots-valid = record { few = v .runs .few; chain = rw (shapes-of (list-of starts lengths kinds count overflow time) slots-sized) (v .runs .chain); typed = v .typed }

@@ -18,11 +18,6 @@ module _ {A B C : Type 0} (f : A → B → C) where
   length-zip (a ∷ xs) [] e = absurd (omega arith)
   length-zip (a ∷ xs) (b ∷ ys) e = ap suc (length-zip xs ys (omega arith))
 
-  pub zip-lengths : (xs : List A) (ys : List B) → (length (zip f xs ys) ≤ length xs) × (length (zip f xs ys) ≤ length ys)
-  zip-lengths [] ys = (omega arith, omega arith)
-  zip-lengths (a ∷ xs) [] = (omega arith, omega arith)
-  zip-lengths (a ∷ xs) (b ∷ ys) = let i = zip-lengths xs ys in (omega arith, omega arith)
-
   pub zip-getD : (xs : List A) (ys : List B) (i : ℕ) (a : A) (b : B) → length xs ≡ length ys → getD (zip f xs ys) i (f a b) ≡ f (getD xs i a) (getD ys i b)
   zip-getD [] [] i a b e = refl
   zip-getD [] (y ∷ ys) i a b e = absurd (omega arith)

@@ -5,7 +5,6 @@ use Prim.Native.Nat.{ℕ, _<_}
 use lib.Dec.{ltb}
 use lib.ListN.{length}
 use Rattle.poison.specs.declared.list.PoisonList.{PoisonList}
-use Rattle.poison.specs.declared.inject.Injected.{Injected}
 use Rattle.poison.specs.Runs.{run, slots}
 use Rattle.poison.specs.State.{PoisonState, entry, covers, insert-entry, state-of, ValidList}
 
@@ -21,9 +20,9 @@ injects s k = covers (s .entries) k || ltb (length (s .entries)) slots
 abbrev pub after-inject : PoisonState → ℕ → PoisonState
 after-inject s k = cond (covers (s .entries) k) s (with-entry s k)
 
--- what the code's injection ensures; one that is not taken hands back the very same list
-pub record Injects (l : PoisonList) (k : ℕ) (r : Injected) : Type 0 where
-  pub done : r .done ≡ injects (state-of l) k
-  pub state : state-of (r .list) ≡ cond (injects (state-of l) k) (after-inject (state-of l) k) (state-of l)
-  pub refused : r .done ≡ false → r .list ≡ l
-  pub valid : (m : ℕ) → ValidList m l → k < m → ValidList m (r .list)
+-- what the code's injection ensures of the list before, the list after, and whether it was taken; one that is not taken leaves the very same list
+pub record Injects (l : PoisonList) (k : ℕ) (b : Bool) (r : PoisonList) : Type 0 where
+  pub done : b ≡ injects (state-of l) k
+  pub state : state-of r ≡ cond (injects (state-of l) k) (after-inject (state-of l) k) (state-of l)
+  pub refused : b ≡ false → r ≡ l
+  pub valid : (m : ℕ) → ValidList m l → k < m → ValidList m r

@@ -2,7 +2,6 @@
 pub mod Runs
 pub mod Shift
 pub mod State
-pub mod List
 pub mod Search
 pub mod Report
 pub mod Stretch

@@ -7,10 +7,9 @@ use Prim.Native.Nat.{ℕ, _+_, _-_, _*_, _≤_, _<_, min, max}
 use lib.Dec.{ltb}
 use lib.ListN.{length, take, getD}
 use Rattle.wire.specs.Wire.{le, splice}
-use Rattle.poison.specs.declared.list.PoisonList.{PoisonList}
 use Rattle.poison.specs.Runs.{Run, end, slots}
 use Rattle.poison.specs.Shift.{first-at}
-use Rattle.poison.specs.State.{Entry, shape, state-of, capacity}
+use Rattle.poison.specs.State.{Entry, shape, capacity}
 
 -- where the lines shared by an entry and the n lines from a on begin and end
 abbrev pub shared-start : ℕ → Entry → ℕ
@@ -45,11 +44,11 @@ unfoldable pub records-bytes : List Entry → List ℕ
 records-bytes [] = []
 records-bytes (e ∷ es) = record-bytes e ++ records-bytes es
 
--- what the code ensures that writes at most `limit` records to a lent buffer from index `at` on: it answers how many entries share a line
--- with the range, and fixes every byte of the buffer
-pub record Wrote (l : PoisonList) (a n limit at r : ℕ) (before after : List ℕ) : Type 0 where
-  pub number : r ≡ length (sharing a n (state-of l .entries))
-  pub bytes : after ≡ splice at (records-bytes (take limit (sharing a n (state-of l .entries)))) before
+-- what the code ensures that writes at most `limit` records of these entries to a lent buffer from index `at` on: it answers how many of them share
+-- a line with the range, and fixes every byte of the buffer
+pub record Wrote (es : List Entry) (a n limit at r : ℕ) (before after : List ℕ) : Type 0 where
+  pub number : r ≡ length (sharing a n es)
+  pub bytes : after ≡ splice at (records-bytes (take limit (sharing a n es))) before
 
 -- ---- what the parts of that code ask and ensure
 -- the place of the first run that ends past line k, or the number of runs

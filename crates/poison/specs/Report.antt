@@ -7,7 +7,6 @@ use Prim.Native.Nat.{ℕ, _+_, _≤_}
 use lib.Dec.{leb, eqb}
 use lib.ListN.{length, take, drop}
 use Rattle.poison.specs.declared.list.PoisonList.{PoisonList}
-use Rattle.poison.specs.declared.report.Reported.{Reported}
 use Rattle.poison.specs.Runs.{Run, total, room, uncovered, some-run}
 use Rattle.poison.specs.State.{Entry, PoisonState, entry, shapes, insert-entries, state-of, ValidList}
 
@@ -50,9 +49,9 @@ with-drop s es rs time =
 abbrev pub after-report : PoisonState → ℕ → ℕ → ℕ → ℕ → PoisonState
 after-report s a n kind time = with-drop s (report-entries (s .entries) a n kind) (dropped-runs (s .entries) a n) time
 
--- what the code's report ensures
-pub record Reports (l : PoisonList) (a n kind time : ℕ) (r : Reported) : Type 0 where
-  pub state : state-of (r .list) ≡ after-report (state-of l) a n kind time
-  pub stored : r .stored ≡ lines-stored (state-of l .entries) a n
-  pub dropped : r .dropped ≡ lines-dropped (state-of l .entries) a n
-  pub valid : (m : ℕ) → ValidList m l → a + n ≤ m → ValidList m (r .list)
+-- what the code's report ensures of the list before, of the lines s stored and the lines d dropped that it answers, and of the list after
+pub record Reports (l : PoisonList) (a n kind time s d : ℕ) (r : PoisonList) : Type 0 where
+  pub state : state-of r ≡ after-report (state-of l) a n kind time
+  pub stored : s ≡ lines-stored (state-of l .entries) a n
+  pub dropped : d ≡ lines-dropped (state-of l .entries) a n
+  pub valid : (m : ℕ) → ValidList m l → a + n ≤ m → ValidList m r

@@ -77,6 +77,11 @@ sum-of (n ∷ ns) = n + sum-of ns
 abbrev pub total-in : ℕ → List ℕ → ℕ
 total-in n lengths = sum-of (take n lengths)
 
+-- the list in memory that three arrays, a count, the flag and its time make up
+abbrev pub list-of : List ℕ → List ℕ → List ℕ → ℕ → Bool → ℕ → PoisonList
+list-of starts lengths kinds count overflow time =
+    record { starts = starts; lengths = lengths; kinds = kinds; count = count; overflow = overflow; «overflow_time» = time }
+
 abbrev pub state-of : PoisonList → PoisonState
 state-of l = record { entries = entries-of l; overflow = l .overflow; overflow-time = l .«overflow_time» }
 
@@ -102,6 +107,12 @@ pub record ValidList (n : ℕ) (l : PoisonList) : Type 0 where
   pub few : l .count ≤ slots
   pub chain : Chain 0 n (shapes (entries-of l))
   pub typed : Typed (entries-of l)
+
+-- a valid list's arrays, lent: 256 slots each, and the first `count` entries as a valid list has them; the flag and its time do not matter
+pub record ValidSlots (n count : ℕ) (starts lengths kinds : List ℕ) : Type 0 where
+  pub runs : ValidRuns n count starts lengths
+  pub kinds-slots : length kinds ≡ slots
+  pub typed : Typed (entries-in count starts lengths kinds)
 
 -- a new list in memory
 pub record Made (r : PoisonList) : Type 0 where

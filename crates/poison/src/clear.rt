@@ -1,51 +1,85 @@
 // Clear Poison (document 01, "Poison list"), of a line of the device: its caller has checked the address.
-use crate::list::PoisonList;
+use crate::list;
 use crate::search;
 use crate::shift;
 ghost use Prim.Native.Nat.{_<_};
-ghost use Rattle.poison.specs.State.{capacity, ValidList};
+ghost use Rattle.poison.specs.State.{capacity, list-of, ValidSlots};
 ghost use Rattle.poison.specs.Clear.{Clears};
 
-impl PoisonList {
-    // Clear Poison of a line, at a device time: the entry over it is replaced by the part before and the part after, each if not empty. With
-    // 256 held and both parts left, the part after is dropped. The arrays are changed in place: a list handed on would be a copy of 2.3 KB.
-    pub fn clear(mut self, line: u32, time: u64) -> Self
-        requires { ⌜ ValidList capacity self × (line < capacity) ⌝ }
-        ensures { λ r. ⌜ Clears self line time r ⌝ }
-    {
-        let n = self.count;
-        let at = search::cover(&self.starts, &self.lengths, n, line);
-        if n <= at {
-            return self;
-        }
-        let start = self.starts[at];
-        let kind = self.kinds[at];
-        let front = line - start;
-        let back = self.lengths[at] - front - 1;
-        if front == 0 {
-            if back == 0 {
-                let last = n - 1;
-                shift::pull_number(&mut self.starts, at, last);
-                shift::pull_number(&mut self.lengths, at, last);
-                shift::pull_kind(&mut self.kinds, at, last);
-                self.count = last;
-                return self;
-            }
-            self.starts[at] = line + 1;
-            self.lengths[at] = back;
-            return self;
-        }
-        self.lengths[at] = front;
+// What a clearing leaves beside the arrays: the number of entries, the overflow flag and the overflow time.
+pub struct Cleared {
+    pub count: usize,
+    pub overflow: bool,
+    pub since: u64,
+}
+
+// Clear Poison of a line, at a device time, in the arrays of a list, where they lie: the entry over the line is replaced by the part before and the part after, each if not
+// empty. With 256 held and both parts left, the part after is dropped.
+pub fn clear_in(
+    starts: &mut [u32; 256],
+    lengths: &mut [u32; 256],
+    kinds: &mut [u8; 256],
+    count: usize,
+    overflow: bool,
+    since: u64,
+    line: u32,
+    time: u64,
+) -> Cleared
+    requires { ⌜ ValidSlots capacity count (now starts) (now lengths) (now kinds) × (line < capacity) ⌝ }
+    ensures { λ r. ⌜ Clears (list-of (now (starts .entry)) (now (lengths .entry)) (now (kinds .entry)) count overflow since) line time (list-of (now (starts .exit)) (now (lengths .exit)) (now (kinds .exit)) (r .count) (r .overflow) (r .since)) ⌝ }
+{
+    let at = search::cover(starts, lengths, count, line);
+    if count <= at {
+        return Cleared {
+            count,
+            overflow,
+            since,
+        };
+    }
+    let start = starts[at];
+    let kind = kinds[at];
+    let front = line - start;
+    let back = lengths[at] - front - 1;
+    if front == 0 {
         if back == 0 {
-            return self;
+            let last = count - 1;
+            shift::take_entry(starts, lengths, kinds, at, last);
+            return Cleared {
+                count: last,
+                overflow,
+                since,
+            };
         }
-        if n == 256 {
-            return self.with_overflow(time);
-        }
-        shift::put_number(&mut self.starts, at + 1, n, line + 1);
-        shift::put_number(&mut self.lengths, at + 1, n, back);
-        shift::put_kind(&mut self.kinds, at + 1, n, kind);
-        self.count = n + 1;
-        self
+        starts[at] = line + 1;
+        lengths[at] = back;
+        return Cleared {
+            count,
+            overflow,
+            since,
+        };
+    }
+    lengths[at] = front;
+    if back == 0 {
+        return Cleared {
+            count,
+            overflow,
+            since,
+        };
+    }
+    if count == 256 {
+        let first = list::first_drop(overflow, since, time);
+        return Cleared {
+            count,
+            overflow: true,
+            since: first,
+        };
+    }
+    let place = at + 1;
+    shift::put_entry(starts, lengths, kinds, place, count, line + 1, back, kind);
+    let more = count + 1;
+    Cleared {
+        count: more,
+        overflow,
+        since,
     }
 }

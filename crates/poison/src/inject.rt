@@ -1,45 +1,40 @@
 // Inject Poison (document 01, "Poison list"), at a line of the device: its caller has checked the address.
-use crate::list::PoisonList;
 use crate::search;
 use crate::shift;
-ghost use Prim.Native.Nat.{_<_};
-ghost use Rattle.poison.specs.State.{capacity, ValidList};
+ghost use mathlib.Core.Bool.{Bool};
+ghost use Prim.Native.Nat.{ℕ, _<_};
+ghost use Rattle.poison.specs.State.{capacity, list-of, ValidSlots};
 ghost use Rattle.poison.specs.Inject.{Injects};
 
-// The list after an injection, and whether it was taken; where it was not, 256 entries are held and none covers the line.
+// The number of entries after an injection, and whether it was taken; where it was not, 256 entries are held and none covers the line.
 pub struct Injected {
-    pub list: PoisonList,
+    pub count: usize,
     pub done: bool,
 }
 
-impl PoisonList {
-    // Inject Poison at a line. The arrays are changed in place: a list handed on would be a copy of 2.3 KB.
-    pub fn inject(mut self, line: u32) -> Injected
-        requires { ⌜ ValidList capacity self × (line < capacity) ⌝ }
-        ensures { λ r. ⌜ Injects self line r ⌝ }
-    {
-        let n = self.count;
-        let at = search::cover(&self.starts, &self.lengths, n, line);
-        if at < n {
-            return Injected {
-                list: self,
-                done: true,
-            };
-        }
-        if n == 256 {
-            return Injected {
-                list: self,
-                done: false,
-            };
-        }
-        let place = search::place(&self.starts, &self.lengths, n, line);
-        shift::put_number(&mut self.starts, place, n, line);
-        shift::put_number(&mut self.lengths, place, n, 1);
-        shift::put_kind(&mut self.kinds, place, n, 3);
-        self.count = n + 1;
-        Injected {
-            list: self,
-            done: true,
-        }
+// Inject Poison at a line, in the arrays of a list, where they lie; the flag and its time stay as they are, whatever they are.
+pub fn inject_in(
+    starts: &mut [u32; 256],
+    lengths: &mut [u32; 256],
+    kinds: &mut [u8; 256],
+    count: usize,
+    line: u32,
+) -> Injected
+    requires { ⌜ ValidSlots capacity count (now starts) (now lengths) (now kinds) × (line < capacity) ⌝ }
+    ensures { λ r. ⌜ ((overflow : Bool) → (since : ℕ) → Injects (list-of (now (starts .entry)) (now (lengths .entry)) (now (kinds .entry)) count overflow since) line (r .done) (list-of (now (starts .exit)) (now (lengths .exit)) (now (kinds .exit)) (r .count) overflow since)) ⌝ }
+{
+    let at = search::cover(starts, lengths, count, line);
+    if at < count {
+        return Injected { count, done: true };
+    }
+    if count == 256 {
+        return Injected { count, done: false };
+    }
+    let place = search::place(starts, lengths, count, line);
+    shift::put_entry(starts, lengths, kinds, place, count, line, 1, 3);
+    let more = count + 1;
+    Injected {
+        count: more,
+        done: true,
     }
 }

@@ -1,13 +1,12 @@
 // The list in memory: starts, lengths and types side by side, so that each array can be lent to a function that works in place.
-// The entries are the first `count` of each; what stands past them is no part of the list. Also the list's own small changes.
-use crate::search;
-use crate::shift;
+// The entries are the first `count` of each; what stands past them is no part of the list.
 ghost use mathlib.Core.Path.{_≡_};
+ghost use mathlib.Core.Bool.{cond};
 ghost use Prim.Native.Nat.{_≤_, _<_};
 ghost use Rattle.poison.specs.State.{state-of, capacity, ValidList, Made, damage-total, total-in};
-ghost use Rattle.poison.specs.List.{InsertedAt, Inserted, Flagged};
 
-// The fields that are public are lent or copied out by crate `embed`, which has the list behind a pointer; no other crate names one (tests/layers).
+// The fields are public for whoever lends the arrays: crate `embed`, which has the list behind a pointer, and `mailbox`, which has one by value (`by_parts`). No other crate
+// names one (tests/layers).
 #[repr(C)]
 pub struct PoisonList {
     pub starts: [u32; 256],
@@ -15,7 +14,7 @@ pub struct PoisonList {
     pub kinds: [u8; 256],
     pub count: usize,
     pub overflow: bool,
-    pub(crate) overflow_time: u64,
+    pub overflow_time: u64,
 }
 
 // A number of lines in 64 bits. Of an element read behind a reference the prover knows no bound; of an argument it does.
@@ -39,6 +38,13 @@ pub fn total_in(lengths: &[u32; 256], count: usize) -> u64
     total
 }
 
+// The overflow time after a drop at a device time: the first drop sets it, and it stays.
+pub(crate) fn first_drop(overflow: bool, since: u64, time: u64) -> u64
+    ensures { λ r. ⌜ r ≡ cond overflow since time ⌝ }
+{
+    if overflow { since } else { time }
+}
+
 impl PoisonList {
     // The empty list.
     pub fn new() -> Self
@@ -60,55 +66,5 @@ impl PoisonList {
         ensures { λ r. ⌜ r ≡ damage-total (state-of self) ⌝ }
     {
         total_in(&self.lengths, self.count)
-    }
-
-    // The overflow flag.
-    pub fn overflowed(self) -> bool
-        ensures { λ r. ⌜ r ≡ state-of self .overflow ⌝ }
-    {
-        self.overflow
-    }
-
-    // The overflow time.
-    pub fn overflowed_at(self) -> u64
-        ensures { λ r. ⌜ r ≡ state-of self .overflow-time ⌝ }
-    {
-        self.overflow_time
-    }
-
-    // The list with an entry more at place `at`: entries move within the arrays, and the slots past the new last entry keep what they
-    // held.
-    fn insert_at(mut self, at: usize, start: u32, lines: u32, kind: u8) -> Self
-        requires { ⌜ (at ≤ self .count) × (self .count < 256) ⌝ }
-        ensures { λ r. ⌜ InsertedAt self at start lines kind r ⌝ }
-    {
-        let n = self.count;
-        shift::put_number(&mut self.starts, at, n, start);
-        shift::put_number(&mut self.lengths, at, n, lines);
-        shift::put_kind(&mut self.kinds, at, n, kind);
-        self.count = n + 1;
-        self
-    }
-
-    // The list with an entry more, in its place in address order.
-    pub(crate) fn insert(self, start: u32, lines: u32, kind: u8) -> Self
-        requires { ⌜ ValidList capacity self × (self .count < 256) ⌝ }
-        ensures { λ r. ⌜ Inserted self start lines kind r ⌝ }
-    {
-        let n = self.count;
-        let at = search::place(&self.starts, &self.lengths, n, start);
-        self.insert_at(at, start, lines, kind)
-    }
-
-    // The list after a drop: the first drop sets the overflow time.
-    pub(crate) fn with_overflow(mut self, time: u64) -> Self
-        ensures { λ r. ⌜ Flagged self time r ⌝ }
-    {
-        let before = self.overflow;
-        let kept = self.overflow_time;
-        let first = if before { kept } else { time };
-        self.overflow = true;
-        self.overflow_time = first;
-        self
     }
 }

@@ -1,7 +1,6 @@
 // What Get Poison List carries (document 01, "Poison list"): the entries that share a line with a range, each cut to the range, as
 // records of 16 bytes written to a lent buffer. Those entries are neighbours in the list: their first and their number are found by
 // halves, and only those that are written are read.
-use crate::list::PoisonList;
 use crate::search;
 ghost use mathlib.Core.Path.{_≡_};
 ghost use mathlib.Core.List.{map};
@@ -9,7 +8,7 @@ ghost use Prim.Native.Nat.{_+_, _*_, _≤_, _<_, max};
 ghost use lib.ListN.{length, drop};
 ghost use Rattle.wire.specs.Wire.{splice};
 ghost use Rattle.poison.specs.Runs.{run};
-ghost use Rattle.poison.specs.State.{capacity, entry, runs-in, entries-in, ValidRuns, ValidList};
+ghost use Rattle.poison.specs.State.{capacity, entry, runs-in, entries-in, ValidRuns, ValidSlots};
 ghost use Rattle.poison.specs.Range.{first-past, cut-to, record-bytes, records-bytes, Cuttable, Writable, Wrote};
 
 // The higher of two lines.
@@ -75,31 +74,28 @@ fn first_past<'a>(starts: &'a [u32; 256], lengths: &'a [u32; 256], count: usize,
     search::place(starts, lengths, count, line)
 }
 
-impl PoisonList {
-    // Writes at most `limit` records of the entries that share a line with the `lines` lines from `from` on, lowest first, into d from
-    // index at on, and answers how many entries share one.
-    pub fn put_records(self, from: u32, lines: u32, limit: usize, d: &mut [u8], at: usize) -> usize
-        requires { ⌜ ValidList capacity self × (from + lines ≤ capacity) × (limit ≤ 256) × (at + 16 * limit ≤ length (now d)) ⌝ }
-        ensures { λ r. ⌜ Wrote self from lines limit at r (now (d .entry)) (now (d .exit)) ⌝ }
-    {
-        if lines == 0 {
-            return 0;
-        }
-        let count = self.count;
-        let first = first_past(&self.starts, &self.lengths, count, from);
-        let number = search::place(&self.starts, &self.lengths, count, from + lines - 1) - first;
-        let m = wire::least(number, limit);
-        put_neighbours(
-            &self.starts,
-            &self.lengths,
-            &self.kinds,
-            first,
-            m,
-            from,
-            lines,
-            d,
-            at,
-        );
-        number
+// Writes at most `limit` records of the entries that share a line with the `lines` lines from `from` on, lowest first, into d from
+// index at on, and answers how many entries share one. The entries are read in the arrays of a list, where they lie.
+pub fn put_records<'a>(
+    starts: &'a [u32; 256],
+    lengths: &'a [u32; 256],
+    kinds: &'a [u8; 256],
+    count: usize,
+    from: u32,
+    lines: u32,
+    limit: usize,
+    d: &mut [u8],
+    at: usize,
+) -> usize
+    requires { ⌜ ValidSlots capacity count (now starts) (now lengths) (now kinds) × (from + lines ≤ capacity) × (limit ≤ 256) × (at + 16 * limit ≤ length (now d)) ⌝ }
+    ensures { λ r. ⌜ Wrote (entries-in count (now (starts .entry)) (now (lengths .entry)) (now (kinds .entry))) from lines limit at r (now (d .entry)) (now (d .exit)) ⌝ }
+{
+    if lines == 0 {
+        return 0;
     }
+    let first = first_past(starts, lengths, count, from);
+    let number = search::place(starts, lengths, count, from + lines - 1) - first;
+    let m = wire::least(number, limit);
+    put_neighbours(starts, lengths, kinds, first, m, from, lines, d, at);
+    number
 }
