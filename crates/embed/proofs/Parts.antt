@@ -8,20 +8,20 @@ use native.Mathlib.Omega.{arith}
 use lib.ListN.{length, length-map, getD}
 use denote.Laws.{Is}
 use denote.Struct.Laws as LL
-use Rattle.poison.specs.State.{capacity, ValidRuns, ValidList, total-in}
+use Rattle.poison.specs.State.{capacity, list-of, ValidRuns, ValidSlots, ValidList, total-in}
 use Rattle.poison.specs.LineTest.{list-in}
 use Rattle.poison.proofs.list.PoisonList as PoisonListT
 use Rattle.poison.proofs.list.PoisonList.Laws as PoisonListL
-use Rattle.poison.proofs.Laws.{Sized, valid-runs, total-is, valid-more}
+use Rattle.poison.proofs.Laws.{Sized, valid-runs, valid-slots, total-is, valid-more}
 use Rattle.events.specs.Log.{ValidLog, blank}
 use Rattle.events.proofs.log.Log as LogT
 use Rattle.events.proofs.log.Log.Laws as LogL
 use Rattle.mailbox.specs.declared.device.Device.{Device}
-use Rattle.mailbox.specs.declared.by_parts.ListParts.{ListParts}
+use Rattle.mailbox.specs.declared.by_parts.ListLeft.{ListLeft}
 use Rattle.mailbox.specs.declared.by_parts.LogParts.{LogParts}
 use Rattle.mailbox.specs.declared.by_parts.SettingsParts.{SettingsParts}
 use Rattle.mailbox.specs.declared.by_parts.EventParts.{EventParts}
-use Rattle.mailbox.specs.declared.by_parts.MediaParts.{MediaParts}
+use Rattle.mailbox.specs.declared.by_parts.MediaLeft.{MediaLeft}
 use Rattle.mailbox.specs.Numbers.{unit-lines, most-units}
 use Rattle.mailbox.specs.State.{DeviceState, ValidDevice, state-of}
 use Rattle.mailbox.specs.Mailbox.{outcome}
@@ -84,13 +84,14 @@ module _ (d : Device) (opcode : ℕ) (payload : List ℕ) (time : ℕ) (reply : 
   abbrev Ends : ℕ → ℕ → Device → List ℕ → Type 0
   Ends code n next after = Answered (outcome (state-of d) opcode payload time (length reply)) d (record { code = code; length = n; device = next }) reply after
 
-  pub list-command-asks : of-list opcode ≡ true
-      → (1 ≤ d .volatile + d .persistent) × (d .volatile + d .persistent ≤ most-units) × ValidList (unit-lines * (d .volatile + d .persistent)) (d .poison) × (of-list opcode ≡ true)
-  list-command-asks is = (v .some-unit, v .few-units, v .poison, is)
+  pub list-command-in-place-asks : of-list opcode ≡ true
+      → (1 ≤ d .volatile + d .persistent) × (d .volatile + d .persistent ≤ most-units) × ValidSlots (unit-lines * (d .volatile + d .persistent)) (d .poison .count) (d .poison .starts) (d .poison .lengths) (d .poison .kinds) × (of-list opcode ≡ true)
+  list-command-in-place-asks is = (v .some-unit, v .few-units, valid-slots (d .poison) (sized d was) (v .poison), is)
 
-  pub list-command-gives : of-list opcode ≡ true → (r : ListParts) (after : List ℕ) → ListAnswered (d .volatile) (d .persistent) (d .clock) (d .poison) opcode payload time r reply after
-      → Ends (r .code) (r .length) (device-of (d .volatile) (d .persistent) (d .clock) (d .policy) (d .logs) (r .list)) after
-  list-command-gives is r after e = list-parts-answered d v e
+  pub list-command-in-place-gives : of-list opcode ≡ true → (r : ListLeft) (starts lengths kinds after : List ℕ)
+      → ListAnswered (d .volatile) (d .persistent) (d .clock) (d .poison) opcode payload time (record { code = r .code; length = r .length; list = list-of starts lengths kinds (r .count) (r .overflow) (r .since) }) reply after
+      → Ends (r .code) (r .length) (device-of (d .volatile) (d .persistent) (d .clock) (d .policy) (d .logs) (list-of starts lengths kinds (r .count) (r .overflow) (r .since))) after
+  list-command-in-place-gives is r starts lengths kinds after e = list-parts-answered d v e
 
   pub log-command-asks : of-list opcode ≡ false → of-log opcode ≡ true → (k : ℕ) → (k ≡ log-named payload) × (k < 5) → ValidLog (getD (d .logs) k blank) × (of-log opcode ≡ true)
   log-command-asks other is k named = (v .logs .each k (named .1), is)
@@ -118,12 +119,12 @@ module _ (d : Device) (time log : ℕ) (event : List ℕ) (v : ValidDevice d) (w
   event-report-in-gives r e = event-parts-done d v (five d was) k (named .0) e
 
 -- ---- the media report
-pub media-report-in-asks : (d : Device) (time address n kind : ℕ) → ValidDevice d → Held d
-    → (1 ≤ d .volatile + d .persistent) × (d .volatile + d .persistent ≤ most-units) × ValidList (unit-lines * (d .volatile + d .persistent)) (d .poison)
-media-report-in-asks d time address n kind v was = (v .some-unit, v .few-units, v .poison)
+module _ (d : Device) (time address n kind : ℕ) (v : ValidDevice d) (was : Held d) where
+  pub media-report-in-place-asks : (1 ≤ d .volatile + d .persistent) × (d .volatile + d .persistent ≤ most-units) × ValidSlots (unit-lines * (d .volatile + d .persistent)) (d .poison .count) (d .poison .starts) (d .poison .lengths) (d .poison .kinds)
+  media-report-in-place-asks = (v .some-unit, v .few-units, valid-slots (d .poison) (sized d was) (v .poison))
 
-pub media-report-in-gives : (d : Device) (time address n kind : ℕ) → ValidDevice d → Held d → (r : MediaParts)
-    → MediaIn (d .volatile) (d .persistent) (d .clock) (d .poison) time address n kind r
-    → MediaDone (media-report (state-of d) time address n kind) d
-    (record { code = r .code; stored = r .stored; dropped = r .dropped; device = device-of (d .volatile) (d .persistent) (d .clock) (d .policy) (d .logs) (r .list) })
-media-report-in-gives d time address n kind v was r e = media-parts-done d v e
+  pub media-report-in-place-gives : (r : MediaLeft) (starts lengths kinds : List ℕ)
+      → MediaIn (d .volatile) (d .persistent) (d .clock) (d .poison) time address n kind (record { code = r .code; stored = r .stored; dropped = r .dropped; list = list-of starts lengths kinds (r .count) (r .overflow) (r .since) })
+      → MediaDone (media-report (state-of d) time address n kind) d
+      (record { code = r .code; stored = r .stored; dropped = r .dropped; device = device-of (d .volatile) (d .persistent) (d .clock) (d .policy) (d .logs) (list-of starts lengths kinds (r .count) (r .overflow) (r .since)) })
+  media-report-in-place-gives r starts lengths kinds e = media-parts-done d v e

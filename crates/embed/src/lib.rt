@@ -1,6 +1,6 @@
 // The device behind a pointer, for C and Rust to call (`rt staticlib embed`). A function here copies nothing that it neither changes nor hands on: it takes the parts of
-// the device that a call sees, calls the mailbox's function over those parts, and stores the parts that changed. The line test and the damage total lend the arrays of the
-// poison list where they lie.
+// the device that a call sees, calls the mailbox's function over those parts, and stores the parts that changed. The arrays of the poison list are never copied: every call
+// that sees them lends them where they lie (document 02, W-203).
 // What a caller owes, and nothing here checks: the device was made by `kulduvost_make` and changed by these functions alone, nothing else uses it during a call, the lengths
 // that come with pointers are true, and no two of the areas handed over overlap.
 use events::status::Status;
@@ -72,7 +72,8 @@ pub extern "C" fn kulduvost_make(device: &mut Device, volatile: u16, persistent:
 }
 
 // A command, with the caller's time. The reply is written to the lent buffer, and the device behind the pointer is the one that follows. An opcode sees the poison list, or
-// one event log, or the settings: only that part is copied out and stored back. (Each arm returns by itself, so that the walk of it ends there.)
+// one event log, or the settings: the list's arrays are lent, a log or the settings are copied out and stored back. (Each arm returns by itself, so that the walk of it ends
+// there.)
 // Requires a valid device. Ensures that the number, the length, every byte of the buffer and the device left are those of `outcome`, that a refusal leaves the very same
 // device, and that the device left is valid.
 #[no_mangle]
@@ -87,8 +88,13 @@ pub extern "C" fn kulduvost_command(
     ensures { λ r. ⌜ Answered (outcome (state-of (now (device .entry))) opcode (now (payload .entry)) time (length (now (reply .entry)))) (now (device .entry)) (answered r (now (device .exit))) (now (reply .entry)) (now (reply .exit)) ⌝ }
 {
     if by_parts::of_list(opcode) {
-        let a = by_parts::list_command(
-            device.poison,
+        let a = by_parts::list_command_in_place(
+            &mut device.poison.starts,
+            &mut device.poison.lengths,
+            &mut device.poison.kinds,
+            device.poison.count,
+            device.poison.overflow,
+            device.poison.overflow_time,
             device.clock,
             device.volatile,
             device.persistent,
@@ -97,7 +103,9 @@ pub extern "C" fn kulduvost_command(
             time,
             reply,
         );
-        device.poison = a.list;
+        device.poison.count = a.count;
+        device.poison.overflow = a.overflow;
+        device.poison.overflow_time = a.since;
         return Done {
             code: a.code,
             length: a.length,
@@ -151,7 +159,7 @@ pub extern "C" fn kulduvost_event_report(
     }
 }
 
-// Media report of damage: so many lines from an address on, of a type, at the caller's time. The poison list alone is copied out and stored back.
+// Media report of damage: so many lines from an address on, of a type, at the caller's time. The arrays of the poison list are lent.
 // Requires a valid device. Ensures that the answer and the device left are those of `media-report`, that a refusal leaves the very same device, and that the device left is valid.
 #[no_mangle]
 pub extern "C" fn kulduvost_media_report(
@@ -164,8 +172,13 @@ pub extern "C" fn kulduvost_media_report(
     requires { ⌜ ValidDevice (now device) ⌝ }
     ensures { λ r. ⌜ MediaDone (media-report (state-of (now (device .entry))) time address lines kind) (now (device .entry)) (media-told r (now (device .exit))) ⌝ }
 {
-    let a = by_parts::media_report_in(
-        device.poison,
+    let a = by_parts::media_report_in_place(
+        &mut device.poison.starts,
+        &mut device.poison.lengths,
+        &mut device.poison.kinds,
+        device.poison.count,
+        device.poison.overflow,
+        device.poison.overflow_time,
         device.clock,
         device.volatile,
         device.persistent,
@@ -174,7 +187,9 @@ pub extern "C" fn kulduvost_media_report(
         lines,
         kind,
     );
-    device.poison = a.list;
+    device.poison.count = a.count;
+    device.poison.overflow = a.overflow;
+    device.poison.overflow_time = a.since;
     Media {
         code: a.code,
         stored: a.stored,
