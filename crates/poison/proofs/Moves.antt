@@ -6,7 +6,7 @@ use Prim.Native.Nat.{ℕ, zero, suc, _+_, _-_, _≤_, _<_}
 use native.Mathlib.Numerals.{add-one}
 use native.Mathlib.Omega.{arith}
 use lib.ListN.{length, take, drop, getD, set, length-append, length-take, length-drop, take-append-drop, List·getD-append}
-use lib.Seq.{getD-drop, getD-append-add, take-at, drop-at, take-take, take-nil, split-at, take-suc, drop-cons, set-at, length-take-le, getD-take}
+use lib.Seq.{getD-drop, getD-append-add, take-at, take-take, take-nil, split-at, take-suc, drop-cons, set-at, length-take-le, getD-take}
 use Rattle.poison.specs.State.{Entry}
 use Rattle.poison.specs.Shift.{putAt, pullAt, first-at}
 

@@ -1,7 +1,7 @@
 -- What is done to each of two lists is done to the two side by side: take, drop, getD, set, and an element put in or taken away. Assumes nothing.
 use mathlib.Core.Path.{_≡_, refl, ap, _∙_}
 use mathlib.Core.List.{List, [], _∷_, _++_}
-use Prim.Native.Nat.{ℕ, zero, suc, _+_, _-_, _≤_}
+use Prim.Native.Nat.{ℕ, zero, suc, _+_, _-_}
 use native.Mathlib.Omega.{arith}
 use lib.ListN.{length, take, drop, getD, set, length-take, length-drop}
 use Rattle.poison.specs.Shift.{zip, putAt, pullAt}

@@ -1,7 +1,4 @@
 -- `line_test::test_in` meets its contract: what the search's answer says of the line (Covering), of a list that has these arrays. Assumes nothing.
-use mathlib.Core.Bool.{Bool}
-use mathlib.Core.List.{List}
-use Prim.Native.Nat.{ℕ}
 use borrow.Author.Needs.{needs}
 use Rattle.poison.specs.declared.list.PoisonList.{PoisonList}
 use Rattle.poison.proofs.Covering.{Searched, covered-line, uncovered-line, kind-at-place}
