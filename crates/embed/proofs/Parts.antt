@@ -78,36 +78,51 @@ total-in-asks d v was = v .poison .few
 pub total-in-gives : (d : Device) → ValidDevice d → Held d → (r : ℕ) → r ≡ total-in (d .poison .count) (d .poison .lengths) → r ≡ damage-total (state-of d)
 total-in-gives d v was r e = e ∙ total-is (d .poison) (sized d was)
 
--- ---- a command, by the part that its opcode sees
-module _ (d : Device) (opcode : ℕ) (payload : List ℕ) (time : ℕ) (reply : List ℕ) (v : ValidDevice d) (was : Held d) where
+-- ---- a command: the function of the part that its opcode sees is handed the device
+module _ (d : Device) (opcode : ℕ) (payload : List ℕ) (time : ℕ) (reply : List ℕ) (v : ValidDevice d) where
+  pub run-on-list-asks : of-list opcode ≡ true → ValidDevice d × (of-list opcode ≡ true)
+  run-on-list-asks is = (v, is)
+
+  pub run-on-log-asks : of-list opcode ≡ false → of-log opcode ≡ true → ValidDevice d × (of-log opcode ≡ true)
+  run-on-log-asks list is = (v, is)
+
+  pub run-on-settings-asks : of-list opcode ≡ false → of-log opcode ≡ false
+      → ValidDevice d × (of-list opcode ≡ false) × (of-log opcode ≡ false)
+  run-on-settings-asks list log = (v, list, log)
+
+-- ---- and that function, over its parts
+module _ (d : Device) (opcode : ℕ) (payload : List ℕ) (time : ℕ) (reply : List ℕ) where
   -- what the call through the pointer ensures: an answer, and the buffer after
   abbrev Ends : ℕ → ℕ → Device → List ℕ → Type 0
   Ends code n next after = Answered (outcome (state-of d) opcode payload time (length reply)) d (record { code = code; length = n; device = next }) reply after
 
-  pub list-command-in-place-asks : of-list opcode ≡ true
-      → (1 ≤ d .volatile + d .persistent) × (d .volatile + d .persistent ≤ most-units) × ValidSlots (unit-lines * (d .volatile + d .persistent)) (d .poison .count) (d .poison .starts) (d .poison .lengths) (d .poison .kinds) × (of-list opcode ≡ true)
-  list-command-in-place-asks is = (v .some-unit, v .few-units, valid-slots (d .poison) (sized d was) (v .poison), is)
+  module _ (v : ValidDevice d × (of-list opcode ≡ true)) (was : Held d) where
+    pub list-command-in-place-asks : (1 ≤ d .volatile + d .persistent) × (d .volatile + d .persistent ≤ most-units) × ValidSlots (unit-lines * (d .volatile + d .persistent)) (d .poison .count) (d .poison .starts) (d .poison .lengths) (d .poison .kinds) × (of-list opcode ≡ true)
+    list-command-in-place-asks = (v .0 .some-unit, v .0 .few-units, valid-slots (d .poison) (sized d was) (v .0 .poison), v .1)
 
-  pub list-command-in-place-gives : of-list opcode ≡ true → (r : ListLeft) (starts lengths kinds after : List ℕ)
-      → ListAnswered (d .volatile) (d .persistent) (d .clock) (d .poison) opcode payload time (record { code = r .code; length = r .length; list = list-of starts lengths kinds (r .count) (r .overflow) (r .since) }) reply after
-      → Ends (r .code) (r .length) (device-of (d .volatile) (d .persistent) (d .clock) (d .policy) (d .logs) (list-of starts lengths kinds (r .count) (r .overflow) (r .since))) after
-  list-command-in-place-gives is r starts lengths kinds after e = list-parts-answered d v e
+    pub list-command-in-place-gives : (r : ListLeft) (starts lengths kinds after : List ℕ)
+        → ListAnswered (d .volatile) (d .persistent) (d .clock) (d .poison) opcode payload time (record { code = r .code; length = r .length; list = list-of starts lengths kinds (r .count) (r .overflow) (r .since) }) reply after
+        → Ends (r .code) (r .length) (device-of (d .volatile) (d .persistent) (d .clock) (d .policy) (d .logs) (list-of starts lengths kinds (r .count) (r .overflow) (r .since))) after
+    list-command-in-place-gives r starts lengths kinds after e = list-parts-answered d (v .0) e
 
-  pub log-command-asks : of-list opcode ≡ false → of-log opcode ≡ true → (k : ℕ) → (k ≡ log-named payload) × (k < 5) → ValidLog (getD (d .logs) k blank) × (of-log opcode ≡ true)
-  log-command-asks other is k named = (v .logs .each k (named .1), is)
+  -- one log
+  module _ (v : ValidDevice d × (of-log opcode ≡ true)) (was : Held d) (k : ℕ) (named : (k ≡ log-named payload) × (k < 5)) where
+    pub log-command-asks : ValidLog (getD (d .logs) k blank) × (of-log opcode ≡ true)
+    log-command-asks = (v .0 .logs .each k (named .1), v .1)
 
-  pub log-command-gives : of-list opcode ≡ false → of-log opcode ≡ true → (k : ℕ) → (k ≡ log-named payload) × (k < 5) → (r : LogParts) (after : List ℕ)
-      → LogAnswered (getD (d .logs) k blank) opcode payload r reply after → Ends (r .code) (r .length) (with-log d k (r .log)) after
-  log-command-gives other is k named r after e = log-parts-answered d v (five d was) k time (named .0) e
+    pub log-command-gives : (r : LogParts) (after : List ℕ) → LogAnswered (getD (d .logs) k blank) opcode payload r reply after
+        → Ends (r .code) (r .length) (with-log d k (r .log)) after
+    log-command-gives r after e = log-parts-answered d (v .0) (five d was) k time (named .0) e
 
-  pub settings-command-asks : of-list opcode ≡ false → of-log opcode ≡ false
-      → (1 ≤ d .volatile + d .persistent) × (d .volatile + d .persistent ≤ most-units) × (of-list opcode ≡ false) × (of-log opcode ≡ false)
-  settings-command-asks list log = (v .some-unit, v .few-units, list, log)
+  -- the settings
+  module _ (v : ValidDevice d × (of-list opcode ≡ false) × (of-log opcode ≡ false)) (was : Held d) where
+    pub settings-command-asks : (1 ≤ d .volatile + d .persistent) × (d .volatile + d .persistent ≤ most-units) × (of-list opcode ≡ false) × (of-log opcode ≡ false)
+    settings-command-asks = (v .0 .some-unit, v .0 .few-units, v .1, v .2)
 
-  pub settings-command-gives : of-list opcode ≡ false → of-log opcode ≡ false → (r : SettingsParts) (after : List ℕ)
-      → SettingsAnswered (d .volatile) (d .persistent) (d .clock) (d .policy) opcode payload time r reply after
-      → Ends (r .code) (r .length) (device-of (d .volatile) (d .persistent) (r .clock) (r .policy) (d .logs) (d .poison)) after
-  settings-command-gives list log r after e = settings-parts-answered d v e
+    pub settings-command-gives : (r : SettingsParts) (after : List ℕ)
+        → SettingsAnswered (d .volatile) (d .persistent) (d .clock) (d .policy) opcode payload time r reply after
+        → Ends (r .code) (r .length) (device-of (d .volatile) (d .persistent) (r .clock) (r .policy) (d .logs) (d .poison)) after
+    settings-command-gives r after e = settings-parts-answered d (v .0) e
 
 -- ---- the event report
 module _ (d : Device) (time log : ℕ) (event : List ℕ) (v : ValidDevice d) (was : Held d) (k : ℕ) (named : (k ≡ log-at log) × (k < 5)) where

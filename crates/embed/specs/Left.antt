@@ -1,14 +1,17 @@
 -- Which answer of the mailbox a call through a pointer stands for: what the call returns, and the device that it leaves behind the pointer. Assumes nothing.
 use Prim.Native.Nat.{ℕ}
 use mathlib.Core.Path.{_≡_}
-use mathlib.Core.List.{[]}
+use mathlib.Core.List.{List, []}
+use lib.ListN.{length}
 use Rattle.poison.specs.State.{PoisonState}
 use Rattle.mailbox.specs.declared.device.Device.{Device}
 use Rattle.mailbox.specs.declared.device.Made.{Made}
 use Rattle.mailbox.specs.declared.device.Answer.{Answer}
 use Rattle.mailbox.specs.declared.device_calls.EventAnswer.{EventAnswer}
 use Rattle.mailbox.specs.declared.device_calls.MediaAnswer.{MediaAnswer}
-use Rattle.mailbox.specs.State.{DeviceState}
+use Rattle.mailbox.specs.State.{DeviceState, state-of}
+use Rattle.mailbox.specs.Mailbox.{outcome}
+use Rattle.mailbox.specs.Contracts.{Answered}
 use Rattle.mailbox.specs.Clock.{unset}
 use Rattle.mailbox.specs.DeviceCalls.{LineOutcome}
 use Rattle.embed.specs.declared.Done.{Done}
@@ -25,6 +28,10 @@ made code d = record { code = code; device = d }
 
 abbrev pub answered : Done → Device → Answer
 answered r d = record { code = r .code; length = r .length; device = d }
+
+-- what a command on the device d behind the pointer leaves: the answer r, the device e, and the reply buffer that was `before`
+abbrev pub Commanded : (d : Device) (opcode : ℕ) (payload : List ℕ) (time : ℕ) (before : List ℕ) (r : Done) (e : Device) (after : List ℕ) → Type 0
+Commanded d opcode payload time before r e after = Answered (outcome (state-of d) opcode payload time (length before)) d (answered r e) before after
 
 abbrev pub event-told : Event → Device → EventAnswer
 event-told r d = record { code = r .code; stored = r .stored; device = d }

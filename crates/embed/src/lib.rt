@@ -12,6 +12,7 @@ use poison::line_test::LineTest;
 use poison::list;
 use wire::returns;
 ghost use mathlib.Core.Path.{_≡_};
+ghost use mathlib.Core.Bool.{true, false};
 ghost use Prim.Native.Nat.{_+_, _≤_};
 ghost use lib.ListN.{length};
 ghost use Rattle.poison.specs.State.{capacity, ValidRuns};
@@ -21,7 +22,8 @@ ghost use Rattle.mailbox.specs.State.{ValidDevice, state-of};
 ghost use Rattle.mailbox.specs.Mailbox.{outcome};
 ghost use Rattle.mailbox.specs.DeviceCalls.{make, event-report, media-report, line-test, event-status, damage-total};
 ghost use Rattle.mailbox.specs.Contracts.{Answered, Makes, EventDone, MediaDone, StatusGiven};
-ghost use Rattle.embed.specs.Left.{made, answered, event-told, media-told, LineTold, seen, device-size};
+ghost use Rattle.mailbox.specs.ByParts.{of-list, of-log};
+ghost use Rattle.embed.specs.Left.{made, answered, Commanded, event-told, media-told, LineTold, seen, device-size};
 
 // The answer to a command: the return number and the length of the reply.
 #[repr(C)]
@@ -72,9 +74,86 @@ pub extern "C" fn kulduvost_make(device: &mut Device, volatile: u16, persistent:
     a.code
 }
 
+// A command of the poison list: its arrays are lent.
+fn run_on_list(
+    device: &mut Device,
+    opcode: u16,
+    payload: &[u8],
+    time: u64,
+    reply: &mut [u8],
+) -> Done
+    requires { ⌜ ValidDevice (now device) × (of-list opcode ≡ true) ⌝ }
+    ensures { λ r. ⌜ Commanded (now (device .entry)) opcode (now (payload .entry)) time (now (reply .entry)) r (now (device .exit)) (now (reply .exit)) ⌝ }
+{
+    let a = by_parts::list_command_in_place(
+        &mut device.poison.starts,
+        &mut device.poison.lengths,
+        &mut device.poison.kinds,
+        device.poison.count,
+        device.poison.overflow,
+        device.poison.overflow_time,
+        device.clock,
+        device.volatile,
+        device.persistent,
+        opcode,
+        payload,
+        time,
+        reply,
+    );
+    device.poison.count = a.count;
+    device.poison.overflow = a.overflow;
+    device.poison.overflow_time = a.since;
+    Done {
+        code: a.code,
+        length: a.length,
+    }
+}
+
+// A command of one event log: that log is copied out and stored back.
+fn run_on_log(device: &mut Device, opcode: u16, payload: &[u8], time: u64, reply: &mut [u8]) -> Done
+    requires { ⌜ ValidDevice (now device) × (of-log opcode ≡ true) ⌝ }
+    ensures { λ r. ⌜ Commanded (now (device .entry)) opcode (now (payload .entry)) time (now (reply .entry)) r (now (device .exit)) (now (reply .exit)) ⌝ }
+{
+    let k = by_parts::log_named(payload);
+    let a = by_parts::log_command(device.logs[k], opcode, payload, reply);
+    device.logs[k] = a.log;
+    Done {
+        code: a.code,
+        length: a.length,
+    }
+}
+
+// Every other command: clock and policy are copied out and stored back.
+fn run_on_settings(
+    device: &mut Device,
+    opcode: u16,
+    payload: &[u8],
+    time: u64,
+    reply: &mut [u8],
+) -> Done
+    requires { ⌜ ValidDevice (now device) × (of-list opcode ≡ false) × (of-log opcode ≡ false) ⌝ }
+    ensures { λ r. ⌜ Commanded (now (device .entry)) opcode (now (payload .entry)) time (now (reply .entry)) r (now (device .exit)) (now (reply .exit)) ⌝ }
+{
+    let a = by_parts::settings_command(
+        device.volatile,
+        device.persistent,
+        device.clock,
+        device.policy,
+        opcode,
+        payload,
+        time,
+        reply,
+    );
+    device.clock = a.clock;
+    device.policy = a.policy;
+    Done {
+        code: a.code,
+        length: a.length,
+    }
+}
+
 // A command, with the caller's time. The reply is written to the lent buffer, and the device behind the pointer is the one that follows. An opcode sees the poison list, or
-// one event log, or the settings: the list's arrays are lent, a log or the settings are copied out and stored back. (Each arm returns by itself, so that the walk of it ends
-// there.)
+// one event log, or the settings: a function for each of these has the device handed on.
 // Requires a valid device. Ensures that the number, the length, every byte of the buffer and the device left are those of `outcome`, that a refusal leaves the very same
 // device, and that the device left is valid.
 #[no_mangle]
@@ -89,53 +168,11 @@ pub extern "C" fn kulduvost_command(
     ensures { λ r. ⌜ Answered (outcome (state-of (now (device .entry))) opcode (now (payload .entry)) time (length (now (reply .entry)))) (now (device .entry)) (answered r (now (device .exit))) (now (reply .entry)) (now (reply .exit)) ⌝ }
 {
     if by_parts::of_list(opcode) {
-        let a = by_parts::list_command_in_place(
-            &mut device.poison.starts,
-            &mut device.poison.lengths,
-            &mut device.poison.kinds,
-            device.poison.count,
-            device.poison.overflow,
-            device.poison.overflow_time,
-            device.clock,
-            device.volatile,
-            device.persistent,
-            opcode,
-            payload,
-            time,
-            reply,
-        );
-        device.poison.count = a.count;
-        device.poison.overflow = a.overflow;
-        device.poison.overflow_time = a.since;
-        return Done {
-            code: a.code,
-            length: a.length,
-        };
+        return run_on_list(device, opcode, payload, time, reply);
     } else if by_parts::of_log(opcode) {
-        let k = by_parts::log_named(payload);
-        let a = by_parts::log_command(device.logs[k], opcode, payload, reply);
-        device.logs[k] = a.log;
-        return Done {
-            code: a.code,
-            length: a.length,
-        };
+        return run_on_log(device, opcode, payload, time, reply);
     } else {
-        let a = by_parts::settings_command(
-            device.volatile,
-            device.persistent,
-            device.clock,
-            device.policy,
-            opcode,
-            payload,
-            time,
-            reply,
-        );
-        device.clock = a.clock;
-        device.policy = a.policy;
-        return Done {
-            code: a.code,
-            length: a.length,
-        };
+        return run_on_settings(device, opcode, payload, time, reply);
     }
 }
 
