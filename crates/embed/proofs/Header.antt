@@ -123,7 +123,10 @@ done-align = refl
 pub done-code-at : fieldOf Done.mir 0 ≡ some (tyInt w16, 0)
 done-code-at = refl
 
-pub done-length-at : fieldOf Done.mir 1 ≡ some (tyInt w64, 8)
+pub done-vector-at : fieldOf Done.mir 1 ≡ some (tyInt w8, 2)
+done-vector-at = refl
+
+pub done-length-at : fieldOf Done.mir 2 ≡ some (tyInt w64, 8)
 done-length-at = refl
 
 pub event-size : size Event.mir ≡ 4
@@ -137,6 +140,9 @@ event-code-at = refl
 
 pub event-stored-at : fieldOf Event.mir 1 ≡ some (tyBool, 2)
 event-stored-at = refl
+
+pub event-vector-at : fieldOf Event.mir 2 ≡ some (tyInt w8, 3)
+event-vector-at = refl
 
 pub media-size : size Media.mir ≡ 12
 media-size = refl

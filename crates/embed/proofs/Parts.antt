@@ -1,11 +1,11 @@
 -- What the printed walks (`tools/walk`) cite: of each function that is handed parts of a device, that the parts of a valid device meet what it requires (`-asks`), and that what it ensures of
 -- the parts is what the call through the pointer ensures of the device (`-gives`). Assumes nothing.
-use mathlib.Core.Path.{_≡_, _∙_}
-use mathlib.Core.Bool.{true, false}
+use mathlib.Core.Path.{_≡_, sym, _∙_}
+use mathlib.Core.Bool.{Bool, true, false}
 use mathlib.Core.List.{List, _∷_, []}
 use Prim.Native.Nat.{ℕ, _+_, _*_, _≤_, _<_}
 use native.Mathlib.Omega.{arith}
-use lib.ListN.{length, length-map, getD}
+use lib.ListN.{length, length-map, getD, set}
 use denote.Laws.{Is}
 use denote.Struct.Laws as LL
 use Rattle.poison.specs.State.{capacity, list-of, ValidRuns, ValidSlots, ValidList, total-in}
@@ -18,17 +18,19 @@ use Rattle.events.proofs.log.Log as LogT
 use Rattle.events.proofs.log.Log.Laws as LogL
 use Rattle.mailbox.specs.declared.device.Device.{Device}
 use Rattle.mailbox.specs.declared.by_parts.ListLeft.{ListLeft}
+use Rattle.mailbox.specs.declared.by_parts.InjectLeft.{InjectLeft}
 use Rattle.mailbox.specs.declared.by_parts.LogParts.{LogParts}
 use Rattle.mailbox.specs.declared.by_parts.SettingsParts.{SettingsParts}
 use Rattle.mailbox.specs.declared.by_parts.EventParts.{EventParts}
 use Rattle.mailbox.specs.declared.by_parts.MediaLeft.{MediaLeft}
 use Rattle.mailbox.specs.Numbers.{unit-lines, most-units}
 use Rattle.mailbox.specs.State.{DeviceState, ValidDevice, state-of}
+use Rattle.mailbox.specs.Vector.{numbered}
 use Rattle.mailbox.specs.Mailbox.{outcome}
 use Rattle.mailbox.specs.DeviceCalls.{event-report, media-report, line-test, damage-total}
 use Rattle.mailbox.specs.Contracts.{Answered, EventDone, MediaDone}
-use Rattle.mailbox.specs.ByParts.{of-list, of-log, log-at, log-named, device-of, with-log, ListAnswered, LogAnswered, SettingsAnswered, EventIn, MediaIn}
-use Rattle.mailbox.proofs.Laws.{list-parts-answered, log-parts-answered, settings-parts-answered, event-parts-done, media-parts-done}
+use Rattle.mailbox.specs.ByParts.{of-list, of-injection, of-log, log-at, log-named, device-of, with-log, ListAnswered, InjectAnswered, LogAnswered, SettingsAnswered, EventIn, MediaIn}
+use Rattle.mailbox.proofs.Laws.{numbered-none, command-vector, list-parts-answered, inject-parts-answered, log-parts-answered, settings-parts-answered, event-parts-done, media-parts-done}
 use Rattle.mailbox.proofs.device.Device as DeviceT
 use Rattle.mailbox.proofs.device.Device.Laws as DeviceL
 use Rattle.embed.specs.declared.Line.{Line}
@@ -83,18 +85,22 @@ module _ (d : Device) (opcode : ℕ) (payload : List ℕ) (time : ℕ) (reply : 
   pub run-on-list-asks : of-list opcode ≡ true → ValidDevice d × (of-list opcode ≡ true)
   run-on-list-asks is = (v, is)
 
-  pub run-on-log-asks : of-list opcode ≡ false → of-log opcode ≡ true → ValidDevice d × (of-log opcode ≡ true)
-  run-on-log-asks list is = (v, is)
+  pub run-injection-asks : of-list opcode ≡ false → of-injection opcode ≡ true → ValidDevice d × (of-injection opcode ≡ true)
+  run-injection-asks list is = (v, is)
 
-  pub run-on-settings-asks : of-list opcode ≡ false → of-log opcode ≡ false
-      → ValidDevice d × (of-list opcode ≡ false) × (of-log opcode ≡ false)
-  run-on-settings-asks list log = (v, list, log)
+  pub run-on-log-asks : of-list opcode ≡ false → of-injection opcode ≡ false → of-log opcode ≡ true → ValidDevice d × (of-log opcode ≡ true)
+  run-on-log-asks list injection is = (v, is)
+
+  pub run-on-settings-asks : of-list opcode ≡ false → of-injection opcode ≡ false → of-log opcode ≡ false
+      → ValidDevice d × (of-list opcode ≡ false) × (of-injection opcode ≡ false) × (of-log opcode ≡ false)
+  run-on-settings-asks list injection log = (v, list, injection, log)
 
 -- ---- and that function, over its parts
 module _ (d : Device) (opcode : ℕ) (payload : List ℕ) (time : ℕ) (reply : List ℕ) where
   -- what the call through the pointer ensures: an answer, and the buffer after
-  abbrev Ends : ℕ → ℕ → Device → List ℕ → Type 0
-  Ends code n next after = Answered (outcome (state-of d) opcode payload time (length reply)) d (record { code = code; length = n; device = next }) reply after
+  abbrev Ends : ℕ → ℕ → ℕ → Device → List ℕ → Type 0
+  Ends code vector n next after =
+      Answered (outcome (state-of d) opcode payload time (length reply)) d (record { code = code; length = n; vector = numbered vector; device = next }) reply after
 
   module _ (v : ValidDevice d × (of-list opcode ≡ true)) (was : Held d) where
     pub list-command-in-place-asks : (1 ≤ d .volatile + d .persistent) × (d .volatile + d .persistent ≤ most-units) × ValidSlots (unit-lines * (d .volatile + d .persistent)) (d .poison .count) (d .poison .starts) (d .poison .lengths) (d .poison .kinds) × (of-list opcode ≡ true)
@@ -102,8 +108,24 @@ module _ (d : Device) (opcode : ℕ) (payload : List ℕ) (time : ℕ) (reply : 
 
     pub list-command-in-place-gives : (r : ListLeft) (starts lengths kinds after : List ℕ)
         → ListAnswered (d .volatile) (d .persistent) (d .clock) (d .poison) opcode payload time (record { code = r .code; length = r .length; list = list-of starts lengths kinds (r .count) (r .overflow) (r .since) }) reply after
-        → Ends (r .code) (r .length) (device-of (d .volatile) (d .persistent) (d .clock) (d .policy) (d .logs) (list-of starts lengths kinds (r .count) (r .overflow) (r .since))) after
-    list-command-in-place-gives r starts lengths kinds after e = list-parts-answered d (v .0) e
+        → Ends (r .code) 0 (r .length) (device-of (d .volatile) (d .persistent) (d .clock) (d .policy) (d .logs) (list-of starts lengths kinds (r .count) (r .overflow) (r .since))) after
+    list-command-in-place-gives r starts lengths kinds after e = command-vector (sym numbered-none) (list-parts-answered d (v .0) e)
+
+  -- Inject Poison: the list's arrays and log 0
+  module _ (v : ValidDevice d × (of-injection opcode ≡ true)) (was : Held d) (k : ℕ) (named : (k ≡ log-at 0) × (k < 5)) where
+    pub inject-in-place-asks : (1 ≤ d .volatile + d .persistent) × (d .volatile + d .persistent ≤ most-units) × ValidSlots (unit-lines * (d .volatile + d .persistent)) (d .poison .count) (d .poison .starts) (d .poison .lengths) (d .poison .kinds) × ValidLog (getD (d .logs) k blank)
+    inject-in-place-asks = (v .0 .some-unit, v .0 .few-units, valid-slots (d .poison) (sized d was) (v .0 .poison), v .0 .logs .each k (named .1))
+
+    pub inject-in-place-gives : (r : InjectLeft) (starts lengths kinds after : List ℕ)
+        → ((overflow : Bool) (since : ℕ) → InjectAnswered (d .volatile) (d .persistent) (d .clock) (d .policy) (getD (d .logs) k blank) (list-of (d .poison .starts) (d .poison .lengths) (d .poison .kinds) (d .poison .count) overflow since) payload time (record { code = r .code; vector = r .vector; list = list-of starts lengths kinds (r .count) overflow since; log = r .log }) reply after)
+        → Ends (r .code) (r .vector) 0 (device-of (d .volatile) (d .persistent) (d .clock) (d .policy) (set (d .logs) k (r .log)) (list-of starts lengths kinds (r .count) (d .poison .overflow) (d .poison .«overflow_time»))) after
+    unfolding log-at
+    inject-in-place-gives r starts lengths kinds after e =
+        let at : (j : ℕ) → j ≡ 0
+        → InjectAnswered (d .volatile) (d .persistent) (d .clock) (d .policy) (getD (d .logs) j blank) (d .poison) payload time (record { code = r .code; vector = r .vector; list = list-of starts lengths kinds (r .count) (d .poison .overflow) (d .poison .«overflow_time»); log = r .log }) reply after
+        → Ends (r .code) (r .vector) 0 (device-of (d .volatile) (d .persistent) (d .clock) (d .policy) (set (d .logs) j (r .log)) (list-of starts lengths kinds (r .count) (d .poison .overflow) (d .poison .«overflow_time»))) after
+        = λ j z. rw z (λ a. inject-parts-answered d (v .0) opcode (five d was) (v .1) a) in
+        at k (named .0) (e (d .poison .overflow) (d .poison .«overflow_time»))
 
   -- one log
   module _ (v : ValidDevice d × (of-log opcode ≡ true)) (was : Held d) (k : ℕ) (named : (k ≡ log-named payload) × (k < 5)) where
@@ -111,26 +133,26 @@ module _ (d : Device) (opcode : ℕ) (payload : List ℕ) (time : ℕ) (reply : 
     log-command-asks = (v .0 .logs .each k (named .1), v .1)
 
     pub log-command-gives : (r : LogParts) (after : List ℕ) → LogAnswered (getD (d .logs) k blank) opcode payload r reply after
-        → Ends (r .code) (r .length) (with-log d k (r .log)) after
-    log-command-gives r after e = log-parts-answered d (v .0) (five d was) k time (named .0) e
+        → Ends (r .code) 0 (r .length) (with-log d k (r .log)) after
+    log-command-gives r after e = command-vector (sym numbered-none) (log-parts-answered d (v .0) (five d was) k time (named .0) e)
 
   -- the settings
-  module _ (v : ValidDevice d × (of-list opcode ≡ false) × (of-log opcode ≡ false)) (was : Held d) where
-    pub settings-command-asks : (1 ≤ d .volatile + d .persistent) × (d .volatile + d .persistent ≤ most-units) × (of-list opcode ≡ false) × (of-log opcode ≡ false)
-    settings-command-asks = (v .0 .some-unit, v .0 .few-units, v .1, v .2)
+  module _ (v : ValidDevice d × (of-list opcode ≡ false) × (of-injection opcode ≡ false) × (of-log opcode ≡ false)) (was : Held d) where
+    pub settings-command-asks : (1 ≤ d .volatile + d .persistent) × (d .volatile + d .persistent ≤ most-units) × (of-list opcode ≡ false) × (of-injection opcode ≡ false) × (of-log opcode ≡ false)
+    settings-command-asks = (v .0 .some-unit, v .0 .few-units, v .1, v .2, v .3)
 
     pub settings-command-gives : (r : SettingsParts) (after : List ℕ)
         → SettingsAnswered (d .volatile) (d .persistent) (d .clock) (d .policy) opcode payload time r reply after
-        → Ends (r .code) (r .length) (device-of (d .volatile) (d .persistent) (r .clock) (r .policy) (d .logs) (d .poison)) after
-    settings-command-gives r after e = settings-parts-answered d (v .0) e
+        → Ends (r .code) 0 (r .length) (device-of (d .volatile) (d .persistent) (r .clock) (r .policy) (d .logs) (d .poison)) after
+    settings-command-gives r after e = command-vector (sym numbered-none) (settings-parts-answered d (v .0) e)
 
 -- ---- the event report
 module _ (d : Device) (time log : ℕ) (event : List ℕ) (v : ValidDevice d) (was : Held d) (k : ℕ) (named : (k ≡ log-at log) × (k < 5)) where
   pub event-report-in-asks : ValidLog (getD (d .logs) k blank)
   event-report-in-asks = v .logs .each k (named .1)
 
-  pub event-report-in-gives : (r : EventParts) → EventIn (getD (d .logs) k blank) (d .clock) time log event r
-      → EventDone (event-report (state-of d) time log event) d (record { code = r .code; stored = r .stored; device = with-log d k (r .log) })
+  pub event-report-in-gives : (r : EventParts) → EventIn (getD (d .logs) k blank) (d .clock) (d .policy) time log event r
+      → EventDone (event-report (state-of d) time log event) d (record { code = r .code; stored = r .stored; vector = numbered (r .vector); device = with-log d k (r .log) })
   event-report-in-gives r e = event-parts-done d v (five d was) k (named .0) e
 
 -- ---- the media report

@@ -12,6 +12,7 @@ use Rattle.mailbox.specs.declared.device_calls.MediaAnswer.{MediaAnswer}
 use Rattle.mailbox.specs.State.{DeviceState, state-of}
 use Rattle.mailbox.specs.Mailbox.{outcome}
 use Rattle.mailbox.specs.Contracts.{Answered}
+use Rattle.mailbox.specs.Vector.{numbered}
 use Rattle.mailbox.specs.Clock.{unset}
 use Rattle.mailbox.specs.DeviceCalls.{LineOutcome}
 use Rattle.embed.specs.declared.Done.{Done}
@@ -26,15 +27,16 @@ device-size = 7648
 abbrev pub made : ℕ → Device → Made
 made code d = record { code = code; device = d }
 
+-- the number of a vector stands for its case
 abbrev pub answered : Done → Device → Answer
-answered r d = record { code = r .code; length = r .length; device = d }
+answered r d = record { code = r .code; length = r .length; vector = numbered (r .vector); device = d }
 
 -- what a command on the device d behind the pointer leaves: the answer r, the device e, and the reply buffer that was `before`
 abbrev pub Commanded : (d : Device) (opcode : ℕ) (payload : List ℕ) (time : ℕ) (before : List ℕ) (r : Done) (e : Device) (after : List ℕ) → Type 0
 Commanded d opcode payload time before r e after = Answered (outcome (state-of d) opcode payload time (length before)) d (answered r e) before after
 
 abbrev pub event-told : Event → Device → EventAnswer
-event-told r d = record { code = r .code; stored = r .stored; device = d }
+event-told r d = record { code = r .code; stored = r .stored; vector = numbered (r .vector); device = d }
 
 abbrev pub media-told : Media → Device → MediaAnswer
 media-told r d = record { code = r .code; stored = r .stored; dropped = r .dropped; device = d }

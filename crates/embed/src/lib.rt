@@ -22,21 +22,23 @@ ghost use Rattle.mailbox.specs.State.{ValidDevice, state-of};
 ghost use Rattle.mailbox.specs.Mailbox.{outcome};
 ghost use Rattle.mailbox.specs.DeviceCalls.{make, event-report, media-report, line-test, event-status, damage-total};
 ghost use Rattle.mailbox.specs.Contracts.{Answered, Makes, EventDone, MediaDone, StatusGiven};
-ghost use Rattle.mailbox.specs.ByParts.{of-list, of-log};
+ghost use Rattle.mailbox.specs.ByParts.{of-list, of-injection, of-log};
 ghost use Rattle.embed.specs.Left.{made, answered, Commanded, event-told, media-told, LineTold, seen, device-size};
 
-// The answer to a command: the return number and the length of the reply.
+// The answer to a command: the return number, the number of the vector to raise (document 02, W-204; 0 for none) and the length of the reply.
 #[repr(C)]
 pub struct Done {
     pub code: u16,
+    pub vector: u8,
     pub length: usize,
 }
 
-// The answer to an event report: the return number, and whether the record was stored.
+// The answer to an event report: the return number, whether the record was stored, and the number of the vector to raise, 0 for none.
 #[repr(C)]
 pub struct Event {
     pub code: u16,
     pub stored: bool,
+    pub vector: u8,
 }
 
 // The answer to a media report: the return number, and the lines stored and dropped.
@@ -74,7 +76,9 @@ pub extern "C" fn kulduvost_make(device: &mut Device, volatile: u16, persistent:
     a.code
 }
 
-// A command of the poison list: its arrays are lent.
+// The four functions below run a command on the part of the device that its opcode sees. Each requires a valid device and an opcode of that part, and ensures what
+// `kulduvost_command` does (`Commanded`).
+// A command of the poison list alone: its arrays are lent.
 fn run_on_list(
     device: &mut Device,
     opcode: u16,
@@ -105,7 +109,43 @@ fn run_on_list(
     device.poison.overflow_time = a.since;
     Done {
         code: a.code,
+        vector: 0,
         length: a.length,
+    }
+}
+
+// Inject Poison: the list's arrays are lent, log 0 is copied out and stored back.
+fn run_injection(
+    device: &mut Device,
+    opcode: u16,
+    payload: &[u8],
+    time: u64,
+    reply: &mut [u8],
+) -> Done
+    requires { ⌜ ValidDevice (now device) × (of-injection opcode ≡ true) ⌝ }
+    ensures { λ r. ⌜ Commanded (now (device .entry)) opcode (now (payload .entry)) time (now (reply .entry)) r (now (device .exit)) (now (reply .exit)) ⌝ }
+{
+    let k = by_parts::log_at(0);
+    let a = by_parts::inject_in_place(
+        &mut device.poison.starts,
+        &mut device.poison.lengths,
+        &mut device.poison.kinds,
+        device.poison.count,
+        device.logs[k],
+        device.clock,
+        device.policy,
+        device.volatile,
+        device.persistent,
+        payload,
+        time,
+        reply,
+    );
+    device.poison.count = a.count;
+    device.logs[k] = a.log;
+    Done {
+        code: a.code,
+        vector: a.vector,
+        length: 0,
     }
 }
 
@@ -119,6 +159,7 @@ fn run_on_log(device: &mut Device, opcode: u16, payload: &[u8], time: u64, reply
     device.logs[k] = a.log;
     Done {
         code: a.code,
+        vector: 0,
         length: a.length,
     }
 }
@@ -131,7 +172,7 @@ fn run_on_settings(
     time: u64,
     reply: &mut [u8],
 ) -> Done
-    requires { ⌜ ValidDevice (now device) × (of-list opcode ≡ false) × (of-log opcode ≡ false) ⌝ }
+    requires { ⌜ ValidDevice (now device) × (of-list opcode ≡ false) × (of-injection opcode ≡ false) × (of-log opcode ≡ false) ⌝ }
     ensures { λ r. ⌜ Commanded (now (device .entry)) opcode (now (payload .entry)) time (now (reply .entry)) r (now (device .exit)) (now (reply .exit)) ⌝ }
 {
     let a = by_parts::settings_command(
@@ -148,13 +189,14 @@ fn run_on_settings(
     device.policy = a.policy;
     Done {
         code: a.code,
+        vector: 0,
         length: a.length,
     }
 }
 
 // A command, with the caller's time. The reply is written to the lent buffer, and the device behind the pointer is the one that follows. An opcode sees the poison list, or
-// one event log, or the settings: a function for each of these has the device handed on.
-// Requires a valid device. Ensures that the number, the length, every byte of the buffer and the device left are those of `outcome`, that a refusal leaves the very same
+// the list and log 0, or one event log, or the settings: a function for each of these has the device handed on.
+// Requires a valid device. Ensures that the number, the length, the vector, every byte of the buffer and the device left are those of `outcome`, that a refusal leaves the very same
 // device, and that the device left is valid.
 #[no_mangle]
 pub extern "C" fn kulduvost_command(
@@ -169,6 +211,8 @@ pub extern "C" fn kulduvost_command(
 {
     if by_parts::of_list(opcode) {
         return run_on_list(device, opcode, payload, time, reply);
+    } else if by_parts::of_injection(opcode) {
+        return run_injection(device, opcode, payload, time, reply);
     } else if by_parts::of_log(opcode) {
         return run_on_log(device, opcode, payload, time, reply);
     } else {
@@ -189,11 +233,19 @@ pub extern "C" fn kulduvost_event_report(
     ensures { λ r. ⌜ EventDone (event-report (state-of (now (device .entry))) time log (now (event .entry))) (now (device .entry)) (event-told r (now (device .exit))) ⌝ }
 {
     let k = by_parts::log_at(log);
-    let a = by_parts::event_report_in(device.logs[k], device.clock, time, log, event);
+    let a = by_parts::event_report_in(
+        device.logs[k],
+        device.clock,
+        device.policy,
+        time,
+        log,
+        event,
+    );
     device.logs[k] = a.log;
     Event {
         code: a.code,
         stored: a.stored,
+        vector: a.vector,
     }
 }
 

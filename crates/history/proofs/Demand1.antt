@@ -15,11 +15,11 @@ refused-step d (line-test address) r = refl
 refused-step d event-status r = refl
 refused-step d damage-total r = refl
 
--- Whatever the call and its arguments: where its return number is not 0, it gives no reply, stores nothing and tells nothing of a line.
+-- Whatever the call and its arguments: where its return number is not 0, it gives no reply and no vector, stores nothing and tells nothing of a line.
 pub refused-gives-nothing : (d : DeviceState) (c : Call) → (step d c .code ≡ 0 → ⊥) → GivesNothing d c
 unfolding step
-refused-gives-nothing d (command opcode payload time room) r = refusal d opcode payload time room r .0
-refused-gives-nothing d (event-report time log bytes) r = event-refusal d time log bytes r .0
+refused-gives-nothing d (command opcode payload time room) r = let n = refusal d opcode payload time room r in (n .0, n .2)
+refused-gives-nothing d (event-report time log bytes) r = let n = event-refusal d time log bytes r in (n .0, n .2)
 refused-gives-nothing d (media-report time address lines kind) r = let n = media-refusal d time address lines kind r in (n .0, n .1)
 refused-gives-nothing d (line-test address) r = line-refusal d address r
 refused-gives-nothing d event-status r = r refl

@@ -14,6 +14,7 @@ use Rattle.events.specs.Drain.{more-bit, clear-read}
 use Rattle.events.proofs.Laws as Logs
 use Rattle.mailbox.specs.Numbers.{mailbox-size, event-records}
 use Rattle.mailbox.specs.State.{DeviceState, state-of}
+use Rattle.mailbox.specs.Vector.{no-vector}
 use Rattle.mailbox.specs.Outcome.{Outcome}
 use Rattle.mailbox.specs.EventCommands.{get-event-records, clear-event-records}
 use Rattle.mailbox.specs.Mailbox.{run-command, outcome}
@@ -49,7 +50,7 @@ module _ (d : DeviceState) (k time room : ℕ) (accepted : read d k time room .c
   abbrev given : Get.GetOutcome
   given = Get.get-event-records event-records (d .logs) k
 
-  read-is : read d k time room ≡ record { code = given .code; reply = given .reply; next = d }
+  read-is : read d k time room ≡ record { code = given .code; reply = given .reply; vector = no-vector; next = d }
   unfolding run-command get-event-records
   read-is = accepted-runs d 0x0100 (k ∷ []) time room accepted
 

@@ -29,8 +29,8 @@ use Rattle.mailbox.specs.declared.clock.Clock.{Clock}
 use Rattle.mailbox.specs.Clock.{device-time}
 use Rattle.mailbox.specs.Policy.{set-policy}
 use Rattle.mailbox.specs.EventCommands.{clear-event-records}
-use Rattle.mailbox.specs.PoisonCommands.{line-of, line-code, inject-poison, clear-poison}
-use Rattle.mailbox.specs.Mailbox.{run-command, outcome}
+use Rattle.mailbox.specs.PoisonCommands.{line-of, line-code, inject-poison, inject-adds, injection-record, clear-poison}
+use Rattle.mailbox.specs.Mailbox.{run-command, inject, outcome}
 use Rattle.mailbox.specs.DeviceCalls as Device
 use Rattle.mailbox.proofs.Laws.{line-inside, media-zero}
 use Rattle.wire.proofs.Laws.{and-parts, either}
@@ -192,20 +192,19 @@ module _ {P : LogState → Type 0} (lasting : Lasting P) where
     record Leaves (o : Outcome) : Type 0 where
       kept : Kept (o .next)
 
-    -- with other logs that have the property; with a list that follows; with another clock; with other settings; as it was
-    logs-kept : (ls : List LogState) → ((k : ℕ) → k < 5 → P (log-at ls k)) → Kept (with-logs s ls)
-    logs-kept ls each =
+    -- with a list that follows and other logs that have the property; with either alone; with another clock; with other settings; as it was
+    parts-kept : (l : PoisonState) → Follows (lines-of s) (s .poison) l → (ls : List LogState) → ((k : ℕ) → k < 5 → P (log-at ls k)) → Kept (with-logs (with-poison s l) ls)
+    parts-kept l f ls each =
         record {
-          holds = record { some-unit = h .some-unit; few-units = h .few-units; logs = each; entries = h .entries };
-          widths = λ w. record { policy = w .policy; time = w .time };
-        }
-
-    list-kept : (l : PoisonState) → Follows (lines-of s) (s .poison) l → Kept (with-poison s l)
-    list-kept l f =
-        record {
-          holds = record { some-unit = h .some-unit; few-units = h .few-units; logs = h .logs; entries = f .entries };
+          holds = record { some-unit = h .some-unit; few-units = h .few-units; logs = each; entries = f .entries };
           widths = λ w. record { policy = w .policy; time = f .time (w .time) };
         }
+
+    logs-kept : (ls : List LogState) → ((k : ℕ) → k < 5 → P (log-at ls k)) → Kept (with-logs s ls)
+    logs-kept ls each = parts-kept (s .poison) (itself (lines-of s) (s .poison) (h .entries)) ls each
+
+    list-kept : (l : PoisonState) → Follows (lines-of s) (s .poison) l → Kept (with-poison s l)
+    list-kept l f = parts-kept l f (s .logs) (h .logs)
 
     clock-kept : (c : Clock) → Kept (with-clock s c)
     clock-kept c =
@@ -228,6 +227,19 @@ module _ {P : LogState → Type 0} (lasting : Lasting P) where
     stays : (o : Outcome) → o .next ≡ s → Leaves o
     stays o e = record { kept = rw e itself-kept }
 
+    -- the logs after an event report, whatever its record
+    told-keeps : (time log : ℕ) (bytes : List ℕ) (k : ℕ) → k < 5 → P (log-at (Event.event-report (s .logs) log bytes (device-time (s .clock) time) .logs) k)
+    told-keeps time log bytes k = report-keeps lasting (s .logs) (h .logs) log bytes (device-time (s .clock) time) k (time-small (s .clock) time)
+
+    -- after Inject Poison: the list, and where it added an entry the report of that event to log 0 (document 02, W-204)
+    inject-leaves : (p : List ℕ) (time : ℕ) → Leaves (inject s p time)
+    unfolding inject Device.event-report
+    inject-leaves p time =
+        let follows = inject-follows (lines-of s) (s .poison) (h .entries) p in
+        either Leaves (inject-adds (lines-of s) (s .poison) p)
+        (record { kept = parts-kept _ follows _ (told-keeps time 0 (injection-record (field p 0 8))) })
+        (record { kept = list-kept _ follows })
+
     -- after a command
     run-leaves : (op : ℕ) (p : List ℕ) (time : ℕ) → Leaves (run-command s op p time)
     unfolding run-command clear-event-records
@@ -242,7 +254,7 @@ module _ {P : LogState → Type 0} (lasting : Lasting P) where
         (either Leaves (eqb op 0x0401) (stays _ refl)
         (either Leaves (eqb op 0x4000) (stays _ refl)
         (either Leaves (eqb op 0x4300) (stays _ refl)
-        (either Leaves (eqb op 0x4301) (record { kept = list-kept _ (inject-follows (lines-of s) (s .poison) (h .entries) p) })
+        (either Leaves (eqb op 0x4301) (inject-leaves p time)
         (either Leaves (eqb op 0x4302) (record { kept = list-kept _ (cut-follows (lines-of s) (s .poison) (h .entries) p _ (time-small (s .clock) time)) })
         (stays _ refl))))))))))))
 
@@ -253,8 +265,7 @@ module _ {P : LogState → Type 0} (lasting : Lasting P) where
     -- after a report
     event-kept : (time log : ℕ) (bytes : List ℕ) → Kept (Device.event-report s time log bytes .next)
     unfolding Device.event-report
-    event-kept time log bytes =
-        logs-kept _ (λ k. report-keeps lasting (s .logs) (h .logs) log bytes (device-time (s .clock) time) k (time-small (s .clock) time))
+    event-kept time log bytes = logs-kept _ (told-keeps time log bytes)
 
     media-kept : (time address n kind : ℕ) → Kept (Device.media-report s time address n kind .next)
     unfolding Device.media-report

@@ -14,3 +14,4 @@ pub mod Lasting
 pub mod Views
 pub mod SomeBuild
 pub mod Cases
+pub mod Interrupts

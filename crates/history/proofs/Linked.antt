@@ -11,6 +11,7 @@ use Rattle.mailbox.specs.declared.device.Device.{Device}
 use Rattle.mailbox.specs.Mailbox.{outcome}
 use Rattle.mailbox.specs.DeviceCalls as Device
 use Rattle.mailbox.specs.Contracts.{Answered, Makes, EventDone, MediaDone}
+use Rattle.mailbox.proofs.Laws.{carries-numbered}
 use Rattle.embed.specs.declared.Done.{Done}
 use Rattle.embed.specs.declared.Event.{Event}
 use Rattle.embed.specs.declared.Media.{Media}
@@ -41,6 +42,15 @@ linked-media d e time address lines kind r a = media-steps d time address lines 
 pub linked-line : (d : Device) (address : ℕ) (r : Line) → LineTold (Device.line-test (state-of d) address) r → Steps d d (line-test address) (r .code)
 unfolding step
 linked-line d address r a = record { number = a .code; next = refl }
+
+-- ---- the vector that a C caller is handed is the number that the definitions give (document 02, W-204)
+pub linked-command-vector : (d e : Device) (opcode : ℕ) (payload : List ℕ) (time : ℕ) (before after : List ℕ) (r : Done)
+    → Answered (outcome (state-of d) opcode payload time (length before)) d (answered r e) before after → r .vector ≡ outcome (state-of d) opcode payload time (length before) .vector
+linked-command-vector d e opcode payload time before after r a = sym (carries-numbered (r .vector) .number) ∙ a .vector .number
+
+pub linked-event-vector : (d e : Device) (time log : ℕ) (bytes : List ℕ) (r : Event) → EventDone (Device.event-report (state-of d) time log bytes) d (event-told r e)
+    → r .vector ≡ Device.event-report (state-of d) time log bytes .vector
+linked-event-vector d e time log bytes r a = sym (carries-numbered (r .vector) .number) ∙ a .vector .number
 
 -- ---- what the read path is told: 0 is Clean, the one answer that permits
 module _ (v p : ℕ) (cs : List Call) (d : Device) (w : Paper) (ran : Ran v p cs d w) where

@@ -20,8 +20,10 @@ use Rattle.mailbox.specs.State.{DeviceState, ValidDevice, lines-of, state-of}
 use Rattle.mailbox.specs.PoisonCommands.{line-of, line-code}
 use Rattle.mailbox.specs.Mailbox.{outcome}
 use Rattle.mailbox.specs.DeviceCalls as Device
+use Rattle.mailbox.specs.Vector.{numbered}
 use Rattle.mailbox.specs.declared.device.Device.{Device}
-use Rattle.mailbox.proofs.Laws.{refusal, event-refusal, media-refusal}
+use Rattle.mailbox.specs.declared.vector.Vector.the-variants.{None}
+use Rattle.mailbox.proofs.Laws.{carries-numbered, refusal, event-refusal, media-refusal}
 use Rattle.history.specs.Builds.{Build, Meets, RefusesAll, FixedReply, ChangesNothing, KeepsFirst, of-media}
 use Rattle.wire.proofs.Laws.{either}
 use Rattle.history.proofs.Lasting.{valid-lasts, make-leaves, command-leaves, event-leaves, media-leaves}
@@ -61,10 +63,10 @@ by-definition =
       make = λ a. record { code = Device.make (a .volatile) (a .persistent) .code; device = device-of (Device.make (a .volatile) (a .persistent) .next) };
       command = λ d a.
           let o = outcome (state-of d) (a .opcode) (a .payload) (a .time) (length (a .before)) in
-          record { answer = record { code = o .code; length = length (o .reply); device = handed-back (o .code) (o .next) d }; after = splice 0 (o .reply) (a .before) };
+          record { answer = record { code = o .code; length = length (o .reply); vector = numbered (o .vector); device = handed-back (o .code) (o .next) d }; after = splice 0 (o .reply) (a .before) };
       event-report = λ d a.
           let o = Device.event-report (state-of d) (a .time) (a .log) (a .event) in
-          record { code = o .code; stored = o .stored; device = handed-back (o .code) (o .next) d };
+          record { code = o .code; stored = o .stored; vector = numbered (o .vector); device = handed-back (o .code) (o .next) d };
       media-report = λ d a.
           let o = Device.media-report (state-of d) (a .time) (a .address) (a .lines) (a .kind) in
           record { code = o .code; stored = o .stored; dropped = o .dropped; device = handed-back (o .code) (o .next) d };
@@ -103,6 +105,7 @@ some-build-meets = (
         record {
           code = refl;
           size = refl;
+          vector = carries-numbered (o .vector);
           next = back-view (o .code) (o .next) d (λ f. refusal s (a .opcode) (a .payload) (a .time) (length (a .before)) f .1);
           bytes = refl;
           refused = back-same (o .code) (o .next) d;
@@ -114,6 +117,7 @@ some-build-meets = (
         record {
           code = refl;
           stored = refl;
+          vector = carries-numbered (o .vector);
           next = back-view (o .code) (o .next) d (λ f. event-refusal s (a .time) (a .log) (a .event) f .1);
           refused = back-same (o .code) (o .next) d;
           valid = back-valid (o .code) (o .next) d (event-leaves valid-lasts s (view-valid d v) (a .time) (a .log) (a .event)) v;
@@ -141,8 +145,8 @@ abbrev refuser : Build
 refuser =
     record {
       make = λ a. record { code = 2; device = device-of (Device.make 1 0 .next) };
-      command = λ d a. record { answer = record { code = 3; length = 0; device = d }; after = a .before };
-      event-report = λ d a. record { code = 2; stored = false; device = d };
+      command = λ d a. record { answer = record { code = 3; length = 0; vector = None; device = d }; after = a .before };
+      event-report = λ d a. record { code = 2; stored = false; vector = None; device = d };
       media-report = λ d a. record { code = 2; stored = 0; dropped = 0; device = d };
       line-test = λ d a. record { code = 2; answer = Unknown };
       event-status = by-definition .event-status;
@@ -167,8 +171,8 @@ abbrev idle : Build
 idle =
     record {
       make = by-definition .make;
-      command = λ d a. record { answer = record { code = 0; length = 0; device = d }; after = a .before };
-      event-report = λ d a. record { code = 0; stored = true; device = d };
+      command = λ d a. record { answer = record { code = 0; length = 0; vector = None; device = d }; after = a .before };
+      event-report = λ d a. record { code = 0; stored = true; vector = None; device = d };
       media-report = λ d a. record { code = 0; stored = a .lines; dropped = 0; device = d };
       line-test = by-definition .line-test;
       event-status = by-definition .event-status;

@@ -1,9 +1,9 @@
 -- What each call does to the poison list and to the paper: it keeps the number of lines, it keeps list and paper consistent, and it sets the overflow flag
 -- only where a line joins the dropped set, and never clears it. Assumes nothing.
-use mathlib.Core.Path.{_≡_, refl, sym, _∙_}
+use mathlib.Core.Path.{_≡_, refl, sym, ap₂, _∙_}
 use mathlib.Core.Bool.{Bool, true, false, cond, false≢true}
 use mathlib.Core.List.{List}
-use Prim.Native.Nat.{ℕ}
+use Prim.Native.Nat.{ℕ, _+_, _*_}
 use borrow.Author.Tests.{eqb-true}
 use lib.Dec.{eqb}
 use lib.ListN.{length}
@@ -12,6 +12,7 @@ use Rattle.poison.specs.State.{PoisonState}
 use Rattle.poison.specs.Inject.{injects}
 use Rattle.poison.specs.Paper.{Paper, paper-report}
 use Rattle.poison.proofs.Laws.{Consistent, consistent-report, consistent-inject, consistent-clear, Flags, report-flags, inject-flags, clear-flags}
+use Rattle.mailbox.specs.Numbers.{unit-lines}
 use Rattle.mailbox.specs.State.{DeviceState, lines-of}
 use Rattle.mailbox.specs.Outcome.{Outcome}
 use Rattle.mailbox.specs.Commands.{admission}
@@ -20,7 +21,7 @@ use Rattle.mailbox.specs.EventCommands.{clear-event-records}
 use Rattle.mailbox.specs.PoisonCommands.{line-of, line-code, inject-poison, clear-poison}
 use Rattle.mailbox.specs.Mailbox.{run-command, outcome}
 use Rattle.mailbox.specs.DeviceCalls as Device
-use Rattle.mailbox.proofs.Laws.{line-inside, media-zero}
+use Rattle.mailbox.proofs.Laws.{line-inside, media-zero, injection-list}
 use Rattle.history.specs.Calls.{Call, command, event-report, media-report, line-test, event-status, damage-total, step}
 use Rattle.history.specs.Paper.{write-command, write}
 
@@ -124,7 +125,12 @@ module _ (n : ℕ) (d : DeviceState) (p : Paper) (h : Holds n d p) where
       → Moves n d (run-command d op payload time .next) (cond (eqb (run-command d op payload time .code) 0) (write-command p op payload) p)
   unfolding run-command
   injects-hold op payload time e =
-      rw e (record { lines = h .lines; kept = rw (h .lines) (inject-keeps n (d .poison) p payload (h .consistent)) })
+      let i = injection-list d payload time in
+      rw e
+      (record {
+        lines = ap₂ (λ (v q : ℕ). unit-lines * (v + q)) (i .volatile) (i .persistent) ∙ h .lines;
+        kept = rw (i .list, i .code, h .lines) (inject-keeps n (d .poison) p payload (h .consistent));
+      })
 
   clears-hold : (op : ℕ) (payload : List ℕ) (time : ℕ) → op ≡ 0x4302
       → Moves n d (run-command d op payload time .next) (cond (eqb (run-command d op payload time .code) 0) (write-command p op payload) p)

@@ -47,19 +47,19 @@ inject line = send 0x4301 (le 8 (line * 64))
 abbrev pub clear : ℕ → Call
 clear line = send 0x4302 (le 8 (line * 64) ++ replicate 64 0)
 
--- n one-line entries of type 3, at every other line from a on
+-- n one-line entries of type 1, at every other line from a on
 abbrev pub singles : ℕ → ℕ → List Entry
 singles a zero = []
-singles a (suc n) = entry 3 (run a 1) ∷ singles (a + 2) n
+singles a (suc n) = entry 1 (run a 1) ∷ singles (a + 2) n
 
 -- 256 entries: 255 of one line, and one of the three lines 1,000 to 1,002 (`full-reached` of proofs/Cases.antt: calls lead there)
 unfoldable pub full : DeviceState
 full = with-poison new-unit (record { entries = singles 0 255 ++ (entry 2 (run 1000 3) ∷ []); overflow = false; overflow-time = 0 })
 
--- n injections, at every other line below 2n, from the highest down
-abbrev pub injections : ℕ → List Call
-injections zero = []
-injections (suc n) = inject (n * 2) ∷ injections n
+-- n reports of one line each, of type 1, at every other line below 2n, from the highest down. (Injections would bring events in log 0 too: document 02, W-204.)
+abbrev pub single-reports : ℕ → List Call
+single-reports zero = []
+single-reports (suc n) = media-report 0 (n * 2 * 64) 1 1 ∷ single-reports n
 
 -- the handles that log 0 holds
 abbrev pub handles-of : DeviceState → List ℕ

@@ -8,3 +8,4 @@ pub mod Ran
 pub mod Drain
 pub mod Builds
 pub mod Cases
+pub mod Interrupts

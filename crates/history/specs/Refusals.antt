@@ -1,17 +1,18 @@
 -- What a refused call gives beside its number (document 01, "Return numbers"): "Every non-zero number returns reply length 0"; "A refused device-side call
--- answers not stored, 0 lines, Unknown with type 0." Assumes nothing.
+-- answers not stored, 0 lines, Unknown with type 0." And no vector to raise (document 02, W-204): "otherwise none". Assumes nothing.
 use mathlib.Core.Path.{_≡_}
 use mathlib.Core.Bool.{false}
 use mathlib.Core.List.{[]}
 use Rattle.mailbox.specs.State.{DeviceState}
+use Rattle.mailbox.specs.Vector.{no-vector}
 use Rattle.mailbox.specs.Mailbox.{outcome}
 use Rattle.mailbox.specs.DeviceCalls as Device
 use Rattle.history.specs.Calls.{Call, command, event-report, media-report, line-test, event-status, damage-total}
 
--- a call on a device gives nothing: no reply; not stored; 0 lines; Unknown, number 2, with type 0. Event status and damage total are never refused.
+-- a call on a device gives nothing: no reply and no vector; not stored and no vector; 0 lines; Unknown, number 2, with type 0. Event status and damage total are never refused.
 abbrev pub GivesNothing : DeviceState → Call → Type 0
-GivesNothing d (command opcode payload time room) = outcome d opcode payload time room .reply ≡ []
-GivesNothing d (event-report time log bytes) = Device.event-report d time log bytes .stored ≡ false
+GivesNothing d (command opcode payload time room) = (outcome d opcode payload time room .reply ≡ []) × (outcome d opcode payload time room .vector ≡ no-vector)
+GivesNothing d (event-report time log bytes) = (Device.event-report d time log bytes .stored ≡ false) × (Device.event-report d time log bytes .vector ≡ no-vector)
 GivesNothing d (media-report time address lines kind) = (Device.media-report d time address lines kind .stored ≡ 0) × (Device.media-report d time address lines kind .dropped ≡ 0)
 GivesNothing d (line-test address) = (Device.line-test d address .number ≡ 2) × (Device.line-test d address .kind ≡ 0)
 GivesNothing d event-status = ⊥

@@ -1,21 +1,21 @@
--- The buffer that a call writes: filled before it, and what is still as it was after it; the column of its bytes, and how long its line can be.
+-- The buffer that a call writes: filled before it, and what is still as it was after it; the column of its bytes, and how long its columns can be.
 -- Assumes nothing.
 use mathlib.Core.Path.{_≡_, refl, sym, ap, ap₂, _∙_}
 use mathlib.Core.Bool.{Bool, true, false, _&&_, cond}
 use mathlib.Core.List.{List, [], _∷_}
-use Prim.Native.Nat.{ℕ, zero, suc, _+_, _-_, _≤_, _<_}
+use Prim.Native.Nat.{ℕ, zero, suc, _+_, _-_, _*_, _≤_, _<_}
 use native.Mathlib.Numerals.{add-one}
 use native.Mathlib.Nat.{sub-zero, zero-add}
 use native.Mathlib.Omega.{arith}
 use lib.Dec.{eqb}
-use lib.ListN.{length, take, drop, getD, replicate, drop-of-length-le}
+use lib.ListN.{length, take, drop, getD, replicate, drop-of-length-le, length-append, length-take}
 use lib.Seq.{drop-cons, drop-at}
 use borrow.Author.Tests.{eq-eqb, ne-eqb}
 use Rattle.wire.specs.Wire.{splice}
 use Rattle.protocol.specs.Text.{column, bytes-column, columns, line-end}
 use Rattle.protocol.specs.Contracts.{Puts, PutsLine}
-use Rattle.protocol.proofs.Laws.{puts-then, puts-as}
-use Rattle.host_records.specs.Lines.{minus, still, buffer-line}
+use Rattle.protocol.proofs.Laws.{puts-then, puts-as, length-column, length-columns, length-bytes-column}
+use Rattle.host_records.specs.Lines.{minus, still, buffer-columns, buffer-line}
 
 -- ---- what is still as it was
 
@@ -56,14 +56,26 @@ always-kept fill room reply fits =
 pub no-bytes : (n : ℕ) (l : List ℕ) → n ≡ 0 → bytes-column minus (take n l) ≡ minus
 no-bytes n l e = ap (λ (k : ℕ). bytes-column minus (take k l)) e
 
--- ---- the line put together, each piece after the one before it
-pub buffer-put : (code n fill : ℕ) (buffer : List ℕ) {a b used h m k e bit : ℕ} {kept : Bool} {d₀ d₁ d₂ d₃ d₄ : List ℕ} → Puts used (a ∷ b ∷ columns (code ∷ n ∷ [])) d₀ d₁ h
-    → Puts h (bytes-column minus (take n buffer)) d₁ d₂ m → Puts m (column bit) d₂ d₃ k → bit ≡ cond kept 1 0 → kept ≡ still fill (drop n buffer) → Puts k line-end d₃ d₄ e → k < length d₀
-    → PutsLine used (buffer-line (a ∷ b ∷ []) code n fill buffer) d₀ d₄ e
-unfolding buffer-line
-buffer-put code n fill buffer {m = m} {k = k} {d₂ = d₂} {d₃ = d₃} start bytes last eb ek end room =
+-- ---- the columns put together, each piece after the one before it; and the line
+pub buffer-put : (code n fill : ℕ) (buffer : List ℕ) {a b used h m k bit : ℕ} {kept : Bool} {d₀ d₁ d₂ d₃ : List ℕ} → Puts used (a ∷ b ∷ columns (code ∷ n ∷ [])) d₀ d₁ h
+    → Puts h (bytes-column minus (take n buffer)) d₁ d₂ m → Puts m (column bit) d₂ d₃ k → bit ≡ cond kept 1 0 → kept ≡ still fill (drop n buffer) → k ≤ length d₀
+    → Puts used (buffer-columns (a ∷ b ∷ []) code n fill buffer) d₀ d₃ k
+unfolding buffer-columns
+buffer-put code n fill buffer {m = m} {k = k} {d₂ = d₂} {d₃ = d₃} start bytes last eb ek room =
     let last' : Puts m (column (cond (still fill (drop n buffer)) 1 0)) d₂ d₃ k = puts-as last (ap column (eb ∙ ap (λ (t : Bool). cond t 1 0) ek)) in
-    record {
-      puts = puts-then (puts-then (puts-then start bytes (omega (arith, bytes .end, last' .end))) last' (omega (arith, last' .end))) end (omega arith);
-      room = omega (arith, end .end);
-    }
+    puts-then (puts-then start bytes (omega (arith, bytes .end, last' .end))) last' (omega (arith, last' .end))
+
+-- where they end: after two letters, three numbers of at most 21 bytes with their blanks, and the bytes
+pub buffer-short : (a b code n fill : ℕ) (buffer : List ℕ) {used k : ℕ} {before after : List ℕ} → Puts used (buffer-columns (a ∷ b ∷ []) code n fill buffer) before after k
+    → n ≤ length buffer → k ≤ used + 68 + 2 * n
+unfolding buffer-columns
+buffer-short a b code n fill buffer {used} {k} put fits =
+    let some : length (take n buffer) ≡ n = rw length-take (omega arith) in
+    let long : length (buffer-columns (a ∷ b ∷ []) code n fill buffer) ≤ 68 + 2 * n = rw (length-append, length-append)
+    (omega (arith, length-columns (code ∷ n ∷ []), length-bytes-column minus (take n buffer), some, length-column (cond (still fill (drop n buffer)) 1 0))) in
+    omega (arith, put .end, long)
+
+pub buffer-ends : (a b code n fill : ℕ) (buffer : List ℕ) {used k e : ℕ} {d₀ d₁ d₂ : List ℕ} → Puts used (buffer-columns (a ∷ b ∷ []) code n fill buffer) d₀ d₁ k
+    → Puts k line-end d₁ d₂ e → k < length d₀ → PutsLine used (buffer-line (a ∷ b ∷ []) code n fill buffer) d₀ d₂ e
+unfolding buffer-line
+buffer-ends a b code n fill buffer start end room = record { puts = puts-then start end (omega arith); room = omega (arith, end .end) }

@@ -19,9 +19,13 @@ still fill [] = true
 still fill (b ∷ bs) = eqb b fill && still fill bs
 
 -- "bytes lower-case hex": "the length answered, the first `length` bytes of the buffer, and 1 if every other byte of the buffer is still `fill`, else 0"
+unfoldable pub buffer-columns : List ℕ → ℕ → ℕ → ℕ → List ℕ → List ℕ
+buffer-columns mark code n fill buffer =
+    ((mark ++ columns (code ∷ n ∷ [])) ++ bytes-column minus (take n buffer)) ++ column (cond (still fill (drop n buffer)) 1 0)
+
+-- the line where no column follows
 unfoldable pub buffer-line : List ℕ → ℕ → ℕ → ℕ → List ℕ → List ℕ
-buffer-line mark code n fill buffer =
-    (((mark ++ columns (code ∷ n ∷ [])) ++ bytes-column minus (take n buffer)) ++ column (cond (still fill (drop n buffer)) 1 0)) ++ line-end
+buffer-line mark code n fill buffer = buffer-columns mark code n fill buffer ++ line-end
 
 -- the line of a call of the host library that writes to a room of so many bytes, "each of them `fill` before the call"
 unfoldable pub written-line : List ℕ → ℕ → ℕ → Written → List ℕ

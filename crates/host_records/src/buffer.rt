@@ -6,7 +6,7 @@ ghost use Prim.Native.Nat.{_+_, _*_, _≤_};
 ghost use lib.ListN.{length, take, drop, replicate};
 ghost use Rattle.protocol.specs.Text.{bytes-column};
 ghost use Rattle.protocol.specs.Contracts.{Puts, PutsLine};
-ghost use Rattle.host_records.specs.Lines.{minus, still, buffer-line, line-room};
+ghost use Rattle.host_records.specs.Lines.{minus, still, buffer-columns, buffer-line, line-room};
 
 // The room that a line can take.
 pub const LINE_ROOM: usize = 20000;
@@ -50,7 +50,30 @@ pub fn put_some(out: &mut [u8], at: usize, bytes: &[u8], n: usize) -> usize
     output::put_bytes(out, at, bytes, n)
 }
 
-// The line of a call that wrote n bytes of the buffer: the mark's letters, the return number, n, the bytes, and whether the others are still `byte`.
+// The columns of a call that wrote n bytes of the buffer: the mark's letters, the return number, n, the bytes, and whether the others are still `byte`.
+pub fn put_buffer(
+    out: &mut [u8],
+    used: usize,
+    first: u8,
+    second: u8,
+    code: u16,
+    buffer: &[u8],
+    n: usize,
+    byte: u8,
+) -> usize
+    requires { ⌜ (n ≤ length (now buffer)) × (n ≤ 5120) × (used + line-room ≤ length (now out)) ⌝ }
+    ensures { λ r. ⌜ Puts used (buffer-columns (first ∷ second ∷ []) code n byte (now (buffer .entry))) (now (out .entry)) (now (out .exit)) r ⌝ }
+{
+    let number = code as u64;
+    let length = n as u64;
+    let numbers = [number, length];
+    let head = output::put_columns(out, used, first, second, &numbers);
+    let at = put_some(out, head, buffer, n);
+    let others = kept(buffer, n, byte);
+    output::put_number(out, at, output::bit(others))
+}
+
+// Its line, where no column follows.
 pub fn put_line(
     out: &mut [u8],
     used: usize,
@@ -64,12 +87,6 @@ pub fn put_line(
     requires { ⌜ (n ≤ length (now buffer)) × (n ≤ 5120) × (used + line-room ≤ length (now out)) ⌝ }
     ensures { λ r. ⌜ PutsLine used (buffer-line (first ∷ second ∷ []) code n byte (now (buffer .entry))) (now (out .entry)) (now (out .exit)) r ⌝ }
 {
-    let number = code as u64;
-    let length = n as u64;
-    let numbers = [number, length];
-    let head = output::put_columns(out, used, first, second, &numbers);
-    let at = put_some(out, head, buffer, n);
-    let others = kept(buffer, n, byte);
-    let end = output::put_number(out, at, output::bit(others));
+    let end = put_buffer(out, used, first, second, code, buffer, n, byte);
     output::end_line(out, end)
 }

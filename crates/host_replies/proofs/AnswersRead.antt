@@ -23,8 +23,8 @@ use Rattle.mailbox.specs.Policy.{get-policy}
 use Rattle.mailbox.specs.EffectsLog.{effects-log, effects-log-id, effects-log-size, log-offset, log-length, get-supported-logs, get-log}
 use Rattle.mailbox.specs.Identity.{version, limits, identify}
 use Rattle.mailbox.specs.EventCommands.{get-event-records, clear-event-records}
-use Rattle.mailbox.specs.PoisonCommands.{line-of, range-code, list-reply, get-poison-list}
-use Rattle.mailbox.specs.Mailbox.{run-command, outcome}
+use Rattle.mailbox.specs.PoisonCommands.{line-of, range-code, list-reply, get-poison-list, inject-adds}
+use Rattle.mailbox.specs.Mailbox.{run-command, inject, outcome}
 use Rattle.mailbox.proofs.Laws.{accepted-runs}
 use Rattle.host_replies.specs.declared.counted.Kind.the-variants.{SupportedLogs}
 use Rattle.host_replies.specs.declared.reply.EventsRead.{EventsRead}
@@ -179,6 +179,11 @@ module _ (d : DeviceState) (plain : Plain d) (p : List ℕ) (time room : ℕ) wh
   silent : (code : ℕ) (next : DeviceState) → Accepts read-nothing (changes code next)
   silent code next = record { accepts = λ z. nothing-taken [] refl }
 
+  -- Inject Poison, whether or not it reports an event (document 02, W-204)
+  injection-silent : Accepts read-nothing (inject d p time)
+  unfolding inject
+  injection-silent = either (Accepts read-nothing) (inject-adds (lines-of d) (d .poison) p) (record { accepts = λ z. nothing-taken [] refl }) (silent _ _)
+
   run-accepts : (op : ℕ) → Accepts (reading-code op (log-length p)) (run-command d op p time)
   unfolding reading-code run-command clear-event-records get-policy
   run-accepts op =
@@ -192,7 +197,7 @@ module _ (d : DeviceState) (plain : Plain d) (p : List ℕ) (time room : ℕ) wh
       (choice (eqb op 0x0401) (record { accepts = λ z. part-given z .size })
       (choice (eqb op 0x4000) (record { accepts = λ z. ap (λ (r : IdentityRead). r .code) (identity-holds (d .volatile) (d .persistent) (plain .units)) })
       (choice (eqb op 0x4300) (record { accepts = λ z. ap (λ (r : ListRead). r .code) (range-given z .fields) })
-      (choice (eqb op 0x4301) (silent _ _)
+      (choice (eqb op 0x4301) injection-silent
       (choice (eqb op 0x4302) (silent _ _)
       (record { accepts = λ z. absurd (omega arith) }))))))))))))
 

@@ -1,7 +1,7 @@
 -- A request built and then taken by the device is the one meant (document 02, W-202): its payload passes the checks before a command's own, the device's own
 -- definitions read the fields given out of it, and the outcome on any device is that of the request by its fields. Assumes nothing.
 use mathlib.Core.Path.{_≡_, refl, sym, ap, ap₂, _∙_}
-use mathlib.Core.Bool.{Bool, true, false, cond}
+use mathlib.Core.Bool.{Bool, true, false, not, _&&_, _||_, cond}
 use mathlib.Core.List.{List, [], _++_}
 use Prim.Native.Nat.{ℕ, _+_, _*_, _%_, _^_, _≤_, _<_}
 use native.Mathlib.Omega.{arith}
@@ -10,7 +10,7 @@ use lib.Dec.{eqb, leb, ltb}
 use lib.ListN.{length, take, drop, getD, length-append}
 use lib.Seq.{take-at}
 use borrow.Author.Tests.{le-leb, leb-true, eq-eqb, ne-eqb, eqb-true}
-use Rattle.wire.specs.Wire.{le, number, splice, same}
+use Rattle.wire.specs.Wire.{le, splice}
 use Rattle.wire.specs.Returns.{success, invalid-input, invalid-length, small-buffer, need}
 use Rattle.wire.proofs.Laws.{length-le, part-whole}
 use Rattle.wire.proofs.Splice.{field-front, field-past, number-read, part-front, part-past}
@@ -21,7 +21,7 @@ use Rattle.events.specs.Clear.{ClearedState, all-flag, count-field, handles-at,
 use Rattle.events.proofs.Laws.{payload-length, payload-log, payload-flags, payload-count, payload-handles}
 use Rattle.mailbox.specs.Numbers.{mailbox-size, event-records}
 use Rattle.mailbox.specs.State.{DeviceState, lines-of, with-logs, with-poison}
-use Rattle.mailbox.specs.Outcome.{Outcome, reads, replied, no-reply, changes, refused}
+use Rattle.mailbox.specs.Outcome.{reads, replied, no-reply, changes, refused}
 use Rattle.mailbox.specs.Commands.{commands, admission}
 use Rattle.mailbox.specs.Clock as Clock
 use Rattle.mailbox.specs.EventCommands as Events
@@ -29,9 +29,12 @@ use Rattle.mailbox.specs.EffectsLog as Logs
 use Rattle.mailbox.specs.PoisonCommands as Poison
 use Rattle.mailbox.specs.PoisonCommands.{ListChange}
 use Rattle.mailbox.specs.Clock.{device-time}
-use Rattle.poison.specs.Inject.{injects, after-inject}
+use Rattle.poison.specs.Runs.{slots}
+use Rattle.poison.specs.State.{PoisonState, covers}
+use Rattle.poison.specs.Inject.{with-entry}
 use Rattle.poison.specs.Clear.{after-clear}
-use Rattle.mailbox.specs.Mailbox.{run-command, outcome}
+use Rattle.mailbox.specs.DeviceCalls.{EventOutcome, event-report}
+use Rattle.mailbox.specs.Mailbox.{changes-list, reports, inject, run-command, outcome}
 use Rattle.mailbox.proofs.Laws.{admitted-runs, clear-events-admitted}
 use Rattle.wire.specs.declared.done.Done.{Done}
 use Rattle.wire.specs.Done.{Written, Writes, written}
@@ -127,27 +130,29 @@ list-taken address lines ha hl =
     let l : length (le 8 address ++ le 8 lines) ≡ 16 = simp (length-append, length-le) in
     taking (Q.get-poison-list address lines) (λ room h. rw (l, le-leb mailbox-size room h)) f (λ d time. rw (f .0, f .1))
 
--- a change of the list, in the device: the tests of the definition and of what is meant are the same
-abbrev change : DeviceState → ListChange → Outcome
-change d c = changes (c .code) (with-poison d (c .list))
-
-inject-meant : (d : DeviceState) (c k : ℕ) (y z : Bool) → z ≡ eqb c 0
-    → change d (need z (record { code = c; list = d .poison }) (need y (record { code = 16; list = d .poison }) (record { code = 0; list = after-inject (d .poison) k })))
-    ≡ need z (refused c d) (need y (refused 16 d) (changes 0 (with-poison d (after-inject (d .poison) k))))
-inject-meant d c k true true e = refl
-inject-meant d c k false true e = refl
-inject-meant d c k true false e = refl
-inject-meant d c k false false e = refl
+-- the tests of the definition and of what is meant are the same: an injection, where x is the list with the line's entry added, v says that the line is covered, w that
+-- there is room for an entry and z that the line's checks pass, and e reports the event
+inject-meant : (d : DeviceState) (c : ℕ) (x : PoisonState) (e : DeviceState → EventOutcome) (v w z : Bool)
+    → let l : ListChange = need z (record { code = c; list = d .poison }) (need (v || w) (record { code = 16; list = d .poison }) (record { code = 0; list = cond v (d .poison) x })) in
+    cond (need z false (not v && w)) (reports 0 (e (with-poison d (l .list)))) (changes-list d l)
+    ≡ need z (refused c d) (need (v || w) (refused 16 d) (need (not v && w) (changes 0 d) (reports 0 (e (with-poison d (cond v (d .poison) x))))))
+inject-meant d c x e v w false = refl
+inject-meant d c x e true w true = refl
+inject-meant d c x e false true true = refl
+inject-meant d c x e false false true = refl
 
 inject-taken : (address : ℕ) → address < 256 ^ 8 → Taken (Q.inject-poison address)
-unfolding opcode payload admission commands run-command meant Poison.inject-poison
+unfolding opcode payload admission commands run-command meant inject Poison.inject-poison Poison.inject-adds
 inject-taken address ha =
     let f = number-read 8 address ha in
+    let k = Poison.line-of address in
     taking (Q.inject-poison address) (λ room h. rw (length-le 8 address, le-leb mailbox-size room h)) f
-    (λ d time. rw f (inject-meant d (Poison.line-code (lines-of d) address) (Poison.line-of address) (injects (d .poison) (Poison.line-of address)) _ refl))
+    (λ d time. rw f
+    (inject-meant d (Poison.line-code (lines-of d) address) (with-entry (d .poison) k) (λ (y : DeviceState). event-report y time 0 (Poison.injection-record address))
+    (covers (d .poison .entries) k) (ltb (length (d .poison .entries)) slots) (eqb (Poison.line-code (lines-of d) address) 0)))
 
 clear-meant : (d : DeviceState) (c k t : ℕ) (z : Bool) → z ≡ eqb c 0
-    → change d (need z (record { code = c; list = d .poison }) (record { code = 0; list = after-clear (d .poison) k t }))
+    → changes-list d (need z (record { code = c; list = d .poison }) (record { code = 0; list = after-clear (d .poison) k t }))
     ≡ need z (refused c d) (changes 0 (with-poison d (after-clear (d .poison) k t)))
 clear-meant d c k t true e = refl
 clear-meant d c k t false e = refl

@@ -8,7 +8,7 @@ use lib.Dec.{eqb, ltb, leb}
 use lib.ListN.{length, getD}
 use Rattle.wire.specs.Wire.{part, field, same}
 use Rattle.wire.specs.Returns.{success, invalid-input, invalid-log, inject-limit, need}
-use Rattle.poison.specs.Inject.{injects, after-inject}
+use Rattle.poison.specs.Inject.{injects, adds, after-inject}
 use Rattle.poison.specs.Clear.{after-clear}
 use Rattle.events.specs.Log.{LogState, log-at}
 use Rattle.events.specs.Get.{reply-bytes}
@@ -23,9 +23,10 @@ use Rattle.mailbox.specs.Policy.{get-policy, set-policy}
 use Rattle.mailbox.specs.EffectsLog.{effects-log, effects-log-id, effects-log-size, log-offset, log-length}
 use Rattle.mailbox.specs.EffectsLog as Logs
 use Rattle.mailbox.specs.Identity as Identity
-use Rattle.mailbox.specs.PoisonCommands.{line-of, line-code, range-code, list-reply}
+use Rattle.mailbox.specs.PoisonCommands.{line-of, line-code, range-code, list-reply, injection-record}
 use Rattle.mailbox.specs.Commands.{admission}
-use Rattle.mailbox.specs.Mailbox.{outcome}
+use Rattle.mailbox.specs.DeviceCalls.{event-report}
+use Rattle.mailbox.specs.Mailbox.{reports, outcome}
 use Rattle.host_requests.specs.Requests.{Request, get-event-records, clear-event-records, get-event-interrupt-policy, set-event-interrupt-policy, get-timestamp, set-timestamp, get-supported-logs, get-log, identify, get-poison-list, inject-poison, clear-poison, opcode, payload}
 
 -- ---- the rules of document 01 by fields
@@ -65,12 +66,14 @@ list-of d address n =
     need (eqb (range-code (lines-of d) address n) success) (no-reply (range-code (lines-of d) address n))
     (replied (list-reply (d .poison) (line-of address) n))
 
--- Inject Poison at an address: "unaligned 0002h; outside 000Fh; covered, Success and nothing changes; 256 held, 0010h"
-abbrev pub injected : DeviceState → ℕ → Outcome
-injected d address =
+-- Inject Poison at an address: "unaligned 0002h; outside 000Fh; covered, Success and nothing changes; 256 held, 0010h"; "an Inject Poison that adds an entry also
+-- reports an event to log 0" (document 02, W-204)
+abbrev pub injected : DeviceState → ℕ → ℕ → Outcome
+injected d address time =
     need (eqb (line-code (lines-of d) address) success) (refused (line-code (lines-of d) address) d)
     (need (injects (d .poison) (line-of address)) (refused inject-limit d)
-    (changes success (with-poison d (after-inject (d .poison) (line-of address)))))
+    (need (adds (d .poison) (line-of address)) (changes success d)
+    (reports success (event-report (with-poison d (after-inject (d .poison) (line-of address))) time 0 (injection-record address)))))
 
 -- Clear Poison at an address: "unaligned 0002h; outside 000Fh"
 abbrev pub poison-cleared : DeviceState → ℕ → ℕ → Outcome
@@ -91,7 +94,7 @@ meant get-supported-logs d time = reads d Logs.get-supported-logs
 meant (get-log identifier offset size) d time = reads d (part-of-log identifier offset size)
 meant identify d time = reads d (Identity.identify (d .volatile) (d .persistent))
 meant (get-poison-list address lines) d time = reads d (list-of d address lines)
-meant (inject-poison address) d time = injected d address
+meant (inject-poison address) d time = injected d address time
 meant (clear-poison address bytes) d time = poison-cleared d address time
 
 -- ---- what the device's own definitions read out of the payload

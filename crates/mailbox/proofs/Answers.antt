@@ -13,12 +13,14 @@ use Rattle.events.specs.declared.log.Log.{Log}
 use Rattle.mailbox.specs.declared.clock.Clock.{Clock}
 use Rattle.mailbox.specs.declared.device.Device.{Device}
 use Rattle.mailbox.specs.declared.device.Answer.{Answer}
+use Rattle.mailbox.specs.declared.vector.Vector.the-variants.{None}
 use Rattle.mailbox.specs.Numbers.{unit-lines}
 use Rattle.mailbox.specs.State.{DeviceState, ValidDevice, state-of}
 use Rattle.mailbox.specs.Outcome.{Reply, Outcome, reads, changes, refused}
 use Rattle.mailbox.specs.Commands.{admission}
 use Rattle.mailbox.specs.Mailbox.{run-command, outcome}
 use Rattle.mailbox.specs.Contracts.{Answered}
+use Rattle.mailbox.proofs.VectorLaws.{carries-none}
 
 -- an answer to an equal outcome
 equal-outcome : {o o′ : Outcome} {d : Device} {r : Answer} {before after : List ℕ} → o ≡ o′ → Answered o′ d r before after → Answered o d r before after
@@ -26,23 +28,23 @@ equal-outcome {o} {o′} {d} {r} {before} {after} e a = subst (λ (x : Outcome).
 
 -- a command that reads: its number, the length of its reply, the buffer; the very same device
 pub read-answer : {d : Device} {o : Reply} {code n : ℕ} {before after : List ℕ} → ValidDevice d → code ≡ o .code → n ≡ length (o .bytes) → after ≡ splice 0 (o .bytes) before
-    → Answered (reads (state-of d) o) d (record { code = code; length = n; device = d }) before after
-read-answer v c n b = record { code = c; size = n; next = refl; bytes = b; refused = λ f. refl; valid = v }
+    → Answered (reads (state-of d) o) d (record { code = code; length = n; vector = None; device = d }) before after
+read-answer v c n b = record { code = c; size = n; vector = carries-none; next = refl; bytes = b; refused = λ f. refl; valid = v }
 
 -- a command that changes a device d to e: its number, no reply, the buffer as it was
 pub change-answer : {d e : Device} {s : DeviceState} {code number : ℕ} {before : List ℕ} → ValidDevice e → code ≡ number → state-of e ≡ s → ((code ≡ 0 → ⊥) → e ≡ d)
-    → Answered (changes number s) d (record { code = code; length = 0; device = e }) before before
+    → Answered (changes number s) d (record { code = code; length = 0; vector = None; device = e }) before before
 unfolding splice
-change-answer v c s f = record { code = c; size = refl; next = s; bytes = refl; refused = f; valid = v }
+change-answer v c s f = record { code = c; size = refl; vector = carries-none; next = s; bytes = refl; refused = f; valid = v }
 
 module _ (d : Device) (op : ℕ) (p : List ℕ) (t room : ℕ) where
   -- refused by the checks before a command's own
   pub refusal-answer : (code : ℕ) {before : List ℕ} → ValidDevice d → code ≡ admission op (length p) room → (code ≡ 0 → ⊥)
-      → Answered (outcome (state-of d) op p t room) d (record { code = code; length = 0; device = d }) before before
+      → Answered (outcome (state-of d) op p t room) d (record { code = code; length = 0; vector = None; device = d }) before before
   unfolding outcome splice
   refusal-answer code v e h =
       equal-outcome {o′ = refused code (state-of d)} (simp (sym e, ne-eqb _ _ h))
-      (record { code = refl; size = refl; next = refl; bytes = refl; refused = λ f. refl; valid = v })
+      (record { code = refl; size = refl; vector = carries-none; next = refl; bytes = refl; refused = λ f. refl; valid = v })
 
   -- admitted: the command of the opcode
   pub answer-at : (o : ℕ) {r : Answer} {before after : List ℕ} → admission op (length p) room ≡ 0 → op ≡ o → Answered (run-command (state-of d) o p t) d r before after

@@ -22,6 +22,8 @@ use Rattle.mailbox.specs.declared.device.Made.{Made}
 use Rattle.mailbox.specs.declared.device_calls.EventAnswer.{EventAnswer}
 use Rattle.mailbox.specs.declared.device_calls.MediaAnswer.{MediaAnswer}
 use Rattle.mailbox.specs.declared.device_calls.LineAnswer.{LineAnswer}
+use Rattle.mailbox.specs.declared.vector.Vector.the-variants.{None}
+use Rattle.mailbox.specs.Vector.{no-vector, raised}
 use Rattle.mailbox.specs.Contracts.{Answered, Makes, EventDone, MediaDone, LineDone}
 use Rattle.wire.specs.Returns.{invalid-input}
 use Rattle.wire.proofs.Laws.{either}
@@ -33,13 +35,14 @@ use Rattle.mailbox.specs.Policy.{get-policy}
 use Rattle.mailbox.specs.EffectsLog.{effects-log-size, effects-log-id, log-offset, log-length, get-supported-logs, get-log}
 use Rattle.mailbox.specs.Identity.{identify}
 use Rattle.mailbox.specs.EventCommands.{get-event-records, clear-event-records}
-use Rattle.mailbox.specs.PoisonCommands.{ListChange, line-of, line-code, range-code, get-poison-list, inject-poison, clear-poison}
-use Rattle.mailbox.specs.Mailbox.{run-command, outcome, changes-list}
+use Rattle.mailbox.specs.PoisonCommands.{ListChange, line-of, line-code, range-code, get-poison-list, inject-poison, inject-adds, clear-poison}
+use Rattle.mailbox.specs.Mailbox.{run-command, inject, outcome, changes-list}
 use Rattle.mailbox.specs.DeviceCalls.{new-device, MakeOutcome, make, event-report, media-code, MediaOutcome, media-report, LineOutcome, line-test}
+use Rattle.mailbox.proofs.VectorLaws.{raised-later}
 
--- a number that is not 0 comes with no reply and the state as it was
+-- a number that is not 0 comes with no reply, the state as it was and no vector
 pub record Refuses (d : DeviceState) (o : Outcome) : Type 0 where
-  pub refuses : (o .code ≡ 0 → ⊥) → (o .reply ≡ []) × (o .next ≡ d)
+  pub refuses : (o .code ≡ 0 → ⊥) → (o .reply ≡ []) × (o .next ≡ d) × (o .vector ≡ no-vector)
 
 -- the same of a reply, and of a change of the list
 record Silent (o : Reply) : Type 0 where
@@ -73,7 +76,7 @@ unfolding get-poison-list
 list-silent lines s p = either Silent (eqb (range-code lines (field p 0 8) (field p 8 8)) 0) (success-silent _) (refusal-silent _)
 
 silent-refuses : (d : DeviceState) {o : Reply} → Silent o → Refuses d (reads d o)
-silent-refuses d k = record { refuses = λ h. (k .silent h, refl) }
+silent-refuses d k = record { refuses = λ h. (k .silent h, refl, refl) }
 
 -- ---- changes
 success-refuses : (d e : DeviceState) → Refuses d (changes 0 e)
@@ -81,7 +84,7 @@ success-refuses d e = record { refuses = λ h. absurd (h refl) }
 
 events-refuse : (d : DeviceState) (p : List ℕ) → Refuses d (clear-event-records d p)
 unfolding clear-event-records
-events-refuse d p = record { refuses = λ h. (refl, ap (with-logs d) (refused-clear-changes-nothing (d .logs) p h)) }
+events-refuse d p = record { refuses = λ h. (refl, ap (with-logs d) (refused-clear-changes-nothing (d .logs) p h), refl) }
 
 inject-keeps : (lines : ℕ) (s : PoisonState) (p : List ℕ) → Keeps s (inject-poison lines s p)
 unfolding inject-poison
@@ -95,7 +98,13 @@ unfolding clear-poison
 clear-keeps lines s p time = either (Keeps s) (eqb (line-code lines (field p 0 8)) 0) (record { keeps = λ h. absurd (h refl) }) (record { keeps = λ h. refl })
 
 keeps-refuses : (d : DeviceState) {c : ListChange} → Keeps (d .poison) c → Refuses d (changes-list d c)
-keeps-refuses d k = record { refuses = λ h. (refl, ap (with-poison d) (k .keeps h)) }
+keeps-refuses d k = record { refuses = λ h. (refl, ap (with-poison d) (k .keeps h), refl) }
+
+-- one that adds an entry is never refused, whatever its event report answers
+inject-refuses : (d : DeviceState) (p : List ℕ) (time : ℕ) → Refuses d (inject d p time)
+unfolding inject
+inject-refuses d p time =
+    either (Refuses d) (inject-adds (lines-of d) (d .poison) p) (record { refuses = λ h. absurd (h refl) }) (keeps-refuses d (inject-keeps _ _ p))
 
 -- ---- the commands
 commands-refuse : (d : DeviceState) (op : ℕ) (p : List ℕ) (time : ℕ) → Refuses d (run-command d op p time)
@@ -111,24 +120,24 @@ commands-refuse d op p time =
     (either (Refuses d) (eqb op 0x0401) (silent-refuses d (log-silent p))
     (either (Refuses d) (eqb op 0x4000) (silent-refuses d (success-silent _))
     (either (Refuses d) (eqb op 0x4300) (silent-refuses d (list-silent _ _ p))
-    (either (Refuses d) (eqb op 0x4301) (keeps-refuses d (inject-keeps _ _ p))
+    (either (Refuses d) (eqb op 0x4301) (inject-refuses d p time)
     (either (Refuses d) (eqb op 0x4302) (keeps-refuses d (clear-keeps _ _ p _))
-    (record { refuses = λ h. (refl, refl) }))))))))))))
+    (record { refuses = λ h. (refl, refl, refl) }))))))))))))
 
--- Demand 1 for the commands: a command whose return number is not 0 has an empty reply and leaves the device's state as it was, whatever the opcode, the
+-- Demand 1 for the commands: a command whose return number is not 0 has an empty reply, leaves the device's state as it was and carries no vector, whatever the opcode, the
 -- payload, the time and the size of the reply buffer.
 pub refusal : (d : DeviceState) (op : ℕ) (p : List ℕ) (time room : ℕ) → (outcome d op p time room .code ≡ 0 → ⊥)
-    → (outcome d op p time room .reply ≡ []) × (outcome d op p time room .next ≡ d)
+    → (outcome d op p time room .reply ≡ []) × (outcome d op p time room .next ≡ d) × (outcome d op p time room .vector ≡ no-vector)
 unfolding outcome
-refusal d op p time room = either (Refuses d) (eqb (admission op (length p) room) 0) (commands-refuse d op p time) (record { refuses = λ h. (refl, refl) }) .refuses
+refusal d op p time room = either (Refuses d) (eqb (admission op (length p) room) 0) (commands-refuse d op p time) (record { refuses = λ h. (refl, refl, refl) }) .refuses
 
--- Demand 1 for event report: a refused report answers not stored and leaves the state as it was.
+-- Demand 1 for event report: a refused report answers not stored, leaves the state as it was and carries no vector.
 pub event-refusal : (d : DeviceState) (time log : ℕ) (bytes : List ℕ) → (event-report d time log bytes .code ≡ 0 → ⊥)
-    → (event-report d time log bytes .stored ≡ false) × (event-report d time log bytes .next ≡ d)
+    → (event-report d time log bytes .stored ≡ false) × (event-report d time log bytes .next ≡ d) × (event-report d time log bytes .vector ≡ no-vector)
 unfolding event-report
 event-refusal d time log bytes h =
     let r = refused-report-changes-nothing (d .logs) log bytes (device-time (d .clock) time) h in
-    (r .0, ap (with-logs d) (r .1))
+    (r .0, ap (with-logs d) (r .1), ap (raised (d .policy) log) (r .2) ∙ raised-later (d .policy) log)
 
 record NothingStored (d : DeviceState) (o : MediaOutcome) : Type 0 where
   nothing : (o .code ≡ 0 → ⊥) → (o .stored ≡ 0) × (o .dropped ≡ 0) × (o .next ≡ d)
@@ -159,19 +168,22 @@ unfolding make
 make-refusal volatile persistent =
     either OneUnit (leb 1 (volatile + persistent) && leb (volatile + persistent) most-units) (record { one-unit = λ h. absurd (h refl) }) (record { one-unit = λ h. (refl, refl) }) .one-unit
 
--- Demand 1 of the code: a command refused by `Device::command` has length 0, hands back the very same device and alters no byte of the reply buffer.
+-- Demand 1 of the code: a command refused by `Device::command` has length 0, hands back the very same device, alters no byte of the reply buffer and carries no vector.
 pub refusal-unaltered : (d : Device) (op : ℕ) (p : List ℕ) (time : ℕ) (r : Answer) (before after : List ℕ)
     → Answered (outcome (state-of d) op p time (length before)) d r before after → (r .code ≡ 0 → ⊥)
-    → (r .length ≡ 0) × (r .device ≡ d) × (after ≡ before)
+    → (r .length ≡ 0) × (r .device ≡ d) × (after ≡ before) × (r .vector ≡ None)
 unfolding splice
 refusal-unaltered d op p time r before after a h =
-    let none : outcome (state-of d) op p time (length before) .reply ≡ [] = refusal (state-of d) op p time (length before) (λ z. h (a .code ∙ z)) .0 in
-    (a .size ∙ ap length none, a .refused h, a .bytes ∙ ap (λ (bs : List ℕ). splice 0 bs before) none)
+    let refuses = refusal (state-of d) op p time (length before) (λ z. h (a .code ∙ z)) in
+    let none : outcome (state-of d) op p time (length before) .reply ≡ [] = refuses .0 in
+    (a .size ∙ ap length none, a .refused h, a .bytes ∙ ap (λ (bs : List ℕ). splice 0 bs before) none, a .vector .none (refuses .2))
 
--- Demand 1 of the code: an event report refused by `Device::event_report` answers not stored and hands back the very same device.
+-- Demand 1 of the code: an event report refused by `Device::event_report` answers not stored, hands back the very same device and carries no vector.
 pub event-unaltered : (d : Device) (time log : ℕ) (bytes : List ℕ) (r : EventAnswer) → EventDone (event-report (state-of d) time log bytes) d r
-    → (r .code ≡ 0 → ⊥) → (r .stored ≡ false) × (r .device ≡ d)
-event-unaltered d time log bytes r a h = (a .stored ∙ event-refusal (state-of d) time log bytes (λ z. h (a .code ∙ z)) .0, a .refused h)
+    → (r .code ≡ 0 → ⊥) → (r .stored ≡ false) × (r .device ≡ d) × (r .vector ≡ None)
+event-unaltered d time log bytes r a h =
+    let refuses = event-refusal (state-of d) time log bytes (λ z. h (a .code ∙ z)) in
+    (a .stored ∙ refuses .0, a .refused h, a .vector .none (refuses .2))
 
 -- A media report refused by `Device::media_report` answers 0 lines stored and 0 dropped and hands back the very same device.
 pub media-unaltered : (d : Device) (time address n kind : ℕ) (r : MediaAnswer) → MediaDone (media-report (state-of d) time address n kind) d r

@@ -25,10 +25,12 @@ use Rattle.mailbox.specs.Clock.{device-time}
 use Rattle.mailbox.specs.PoisonCommands.{line-of, line-code, range-code}
 use Rattle.mailbox.specs.DeviceCalls.{new-device, make, MakeOutcome, event-report, media-code, media-report, MediaOutcome, line-test, LineOutcome}
 use Rattle.poison.specs.LineTest.{answer-number, answer-type}
+use Rattle.mailbox.specs.Vector.{no-vector, numbered, raised}
 use Rattle.mailbox.specs.Contracts.{Makes, EventDone, MediaDone, LineDone}
 use Rattle.wire.proofs.Laws.{need-fails, need-holds, need-zero}
 use Rattle.mailbox.proofs.Addresses.{range-ends}
 use Rattle.mailbox.proofs.Answers.{valid-device}
+use Rattle.mailbox.proofs.VectorLaws.{carries-numbered, carries-equal, raised-later}
 
 -- a check that refuses gives its number, whatever follows
 need-refuses : (t : Bool) (code rest : ℕ) → code ≡ need t invalid-input 0 → (code ≡ 0 → ⊥) → code ≡ need t invalid-input rest
@@ -68,13 +70,14 @@ module _ (volatile persistent : ℕ) {d : Device} where
 -- ---- event report
 module _ (d : Device) (time log : ℕ) (bytes : List ℕ) (v : ValidDevice d) where
   pub event-refused : (code : ℕ) → code ≡ report-code log (length bytes) → (code ≡ 0 → ⊥)
-      → EventDone (event-report (state-of d) time log bytes) d (record { code = code; stored = false; device = d })
+      → EventDone (event-report (state-of d) time log bytes) d (record { code = code; stored = false; vector = numbered no-vector; device = d })
   unfolding event-report
   event-refused code e f =
       let r = event-report-refused (states-of (d .logs)) log bytes (device-time (d .clock) time) (λ z. f (e ∙ z)) in
       record {
         code = e ∙ sym (ap (λ (x : ReportOutcome). x .code) r);
         stored = sym (ap (λ (x : ReportOutcome). x .stored) r);
+        vector = carries-equal (sym (raised-later (d .policy) log) ∙ sym (ap (λ (x : ReportOutcome). raised (d .policy) log (x .first)) r)) (carries-numbered no-vector);
         next = sym (ap (λ (x : ReportOutcome). with-logs (state-of d) (x .logs)) r);
         refused = λ g. refl;
         valid = v;
@@ -86,6 +89,7 @@ module _ (d : Device) (time log : ℕ) (bytes : List ℕ) (v : ValidDevice d) wh
       (record {
         code = code;
         stored = a .stored;
+        vector = numbered (raised (d .policy) log (a .first));
         device = record { volatile = d .volatile; persistent = d .persistent; clock = d .clock; policy = d .policy; logs = set (d .logs) log (a .log); poison = d .poison };
       })
   unfolding event-report
@@ -94,6 +98,7 @@ module _ (d : Device) (time log : ℕ) (bytes : List ℕ) (v : ValidDevice d) wh
       record {
         code = none ∙ sym (ap (λ (x : ReportOutcome). x .code) r);
         stored = sym (ap (λ (x : ReportOutcome). x .stored) r);
+        vector = carries-equal (sym (ap (λ (x : ReportOutcome). raised (d .policy) log (x .first)) r)) (carries-numbered _);
         next = sym (ap (λ (x : ReportOutcome). with-logs (state-of d) (x .logs)) r);
         refused = λ g. absurd (g none);
         valid = valid-device d _ _ _ _ v (valid-set (d .logs) log (a .log) five (report-code-zero log (length bytes) z .1) (v .logs) (done .valid)) (v .poison);

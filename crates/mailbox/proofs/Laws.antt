@@ -16,7 +16,23 @@ pub use Rattle.mailbox.proofs.Addresses.{line-inside, range-ends}
 -- A media report that its checks do not refuse is of a type of three bits and of lines of the device.
 pub use Rattle.mailbox.proofs.DeviceAnswers.{media-zero}
 -- The answer of a function over parts, at the parts of a valid device, is that device's answer, with the part that follows in its place. For the two of one log: where the log was taken
--- from, and is put back to, the place that the payload, or the log's number, names.
-pub use Rattle.mailbox.proofs.PartAnswers.{list-parts-answered, log-parts-answered, settings-parts-answered, event-parts-done, media-parts-done}
+-- from, and is put back to, the place that the payload, or the log's number, names; for Inject Poison, log 0.
+pub use Rattle.mailbox.proofs.PartAnswers.{list-parts-answered, inject-parts-answered, log-parts-answered, settings-parts-answered, event-parts-done, media-parts-done}
+-- An answer with an equal vector. None is the case of number 0; the case of a number has that number, and is none where the number is 0.
+pub use Rattle.mailbox.proofs.PartAnswers.{command-vector}
+pub use Rattle.mailbox.proofs.VectorLaws.{numbered-none, carries-numbered}
+-- W-204, of the list: an Inject Poison answers the number and leaves the list that it would without its event report; of the rest of the device only the logs move,
+-- where it adds an entry, by a report of its record to log 0 (`Injected`). One that adds an entry is answered Success, and the entry is there, whatever the logs hold (`Stands`).
+pub use Rattle.mailbox.proofs.Raising.{Injected, logs-told, injection-list, Stands, injection-stands}
+-- W-204, who carries a vector: an event report only where its record was stored by an enabled log that went from empty to one record (`Raises`); a command only where it
+-- is an Inject Poison that adds an entry, and log 0 so took its record (`CommandRaises`), so that every other command carries none; an Inject Poison that is answered
+-- Success and adds no entry carries none and leaves the device's state as it was.
+pub use Rattle.mailbox.proofs.Raising.{Raises, report-raises, CommandRaises, command-raises, only-inject-raises, covered-raises-none}
+-- W-204, when it is carried: an event of 128 bytes to an enabled log that holds no record carries the log's vector, and an Inject Poison that adds an entry carries 2 where log 0
+-- is such a log; so after a Clear that empties the log the next record carries the vector again.
+pub use Rattle.mailbox.proofs.Raising.{empty-raises, injection-raises, emptied-raises, emptied-injection-raises}
+-- W-204, the settings: of logs 0 to 3 the setting that Set Event Interrupt Policy makes has the vector that is raised; a log is enabled after it exactly where the low two
+-- bits of its byte are 1, log 4 where the payload has its byte.
+pub use Rattle.mailbox.proofs.Raising.{settings-vector, enabled-set, enabled-last}
 -- To unfold `rules` is to unfold every definition of a call: on a device that is written out it then computes.
 unfoldable pub use Rattle.mailbox.proofs.Computing.{rules}

@@ -7,11 +7,13 @@ pub mod IdentityLaws
 pub mod PolicyLaws
 pub mod Headers
 pub mod Addresses
+pub mod VectorLaws
 pub mod Answers
 pub mod EventAnswers
 pub mod ListAnswers
 pub mod DeviceAnswers
 pub mod PartAnswers
 pub mod Demand1
+pub mod Raising
 pub mod Computing
 pub mod Laws

@@ -1,28 +1,30 @@
 -- What the poison commands ensure of their answers (`ListDone`, and the reply of Get Poison List), by their cases. Assumes nothing.
 use mathlib.Core.Path.{_≡_, refl, sym, ap, ap₂, _∙_, subst}
-use mathlib.Core.Bool.{Bool, true, false, cond}
+use mathlib.Core.Bool.{Bool, true, false, cond, true≢false}
 use mathlib.Core.List.{List}
 use Prim.Native.Nat.{ℕ, _+_, _*_, _≤_, _<_, min}
 use native.Mathlib.Omega.{arith}
+use native.Mathlib.Decide.{ℕ-discrete}
 use lib.ListN.{length, take, length-append, length-take}
 use borrow.Author.Tests.{ne-eqb}
 use Rattle.wire.specs.Wire.{field, splice}
 use Rattle.poison.specs.State.{PoisonState, capacity, entries-of, ValidList, ValidSlots, state-of}
-use Rattle.poison.specs.Inject.{injects, after-inject, Injects}
+use Rattle.poison.specs.Inject.{injects, adds, after-inject, Injects}
 use Rattle.poison.specs.Clear.{after-clear, Clears}
 use Rattle.poison.specs.Range.{sharing, records-bytes, Wrote}
 use Rattle.poison.specs.declared.list.PoisonList.{PoisonList}
-use Rattle.poison.proofs.Laws.{valid-more, slots-more, length-records}
+use Rattle.poison.proofs.Laws.{valid-more, slots-more, length-records, adds-taken}
 use Rattle.mailbox.specs.declared.outcome.Done.{Done}
 use Rattle.mailbox.specs.declared.device.Device.{Device}
+use Rattle.mailbox.specs.declared.vector.Vector.the-variants.{None}
 use Rattle.wire.specs.Returns.{success, inject-limit, need}
 use Rattle.mailbox.specs.Numbers.{unit-lines, most-units, mailbox-size, poison-records}
 use Rattle.mailbox.specs.State as D
 use Rattle.mailbox.specs.State.{ValidDevice}
 use Rattle.mailbox.specs.Outcome.{replied, no-reply, reads}
 use Rattle.mailbox.specs.Mailbox.{changes-list}
-use Rattle.mailbox.specs.PoisonCommands.{ListChange, line-of, line-code, range-code, inject-poison, clear-poison, list-header, list-reply, get-poison-list}
-use Rattle.mailbox.specs.Contracts.{Replied, ListDone, Answered}
+use Rattle.mailbox.specs.PoisonCommands.{ListChange, line-of, line-code, range-code, inject-poison, inject-adds, clear-poison, list-header, list-reply, get-poison-list}
+use Rattle.mailbox.specs.Contracts.{Replied, ListDone, InjectDone, Answered}
 use Rattle.mailbox.proofs.Replies.{no-bytes, bytes-written, field-before}
 use Rattle.mailbox.proofs.Headers.{header-length}
 use Rattle.mailbox.proofs.Addresses.{line-inside}
@@ -45,6 +47,10 @@ module _ (lines : ℕ) (s : PoisonState) (p : List ℕ) where
     unfolding clear-poison
     clear-refused time = simp (sym e, ne-eqb _ _ f)
 
+    pub refused-adds : false ≡ inject-adds lines s p
+    unfolding inject-adds
+    refused-adds = simp (sym e, ne-eqb _ _ f)
+
   -- past those checks
   module _ (e : line-code lines (field p 0 8) ≡ 0) where
     pub inject-taken : injects s (line-of (field p 0 8)) ≡ true → inject-poison lines s p ≡ record { code = success; list = after-inject s (line-of (field p 0 8)) }
@@ -55,9 +61,22 @@ module _ (lines : ℕ) (s : PoisonState) (p : List ℕ) where
     unfolding inject-poison
     inject-full t = simp (e, t)
 
+    pub taken-adds : adds s (line-of (field p 0 8)) ≡ inject-adds lines s p
+    unfolding inject-adds
+    taken-adds = simp e
+
     pub clear-taken : (time : ℕ) → clear-poison lines s p time ≡ record { code = success; list = after-clear s (line-of (field p 0 8)) time }
     unfolding clear-poison
     clear-taken time = simp e
+
+  -- one that adds an entry is answered Success
+  pub adding-code : inject-adds lines s p ≡ true → inject-poison lines s p .code ≡ success
+  unfolding inject-adds
+  adding-code t = go (ℕ-discrete (line-code lines (field p 0 8)) 0)
+    where
+      go : Dec (line-code lines (field p 0 8) ≡ 0) → inject-poison lines s p .code ≡ success
+      go (yes e) = ap (λ (c : ListChange). c .code) (inject-taken e (adds-taken s (line-of (field p 0 8)) (taken-adds e ∙ t)))
+      go (no f) = absurd (true≢false (sym t ∙ sym (refused-adds _ refl f)))
 
   -- Get Poison List
   pub get-refused : (code : ℕ) → code ≡ range-code lines (field p 0 8) (field p 8 8) → (code ≡ 0 → ⊥) → get-poison-list lines s p ≡ no-reply code
@@ -100,8 +119,12 @@ module _ (lines : ℕ) (l : PoisonList) (p : List ℕ) (address : ℕ) (e : addr
 
   module _ (v : ValidList lines l) where
     pub inject-refusal : (code : ℕ) → code ≡ line-code lines address → (code ≡ 0 → ⊥)
-        → ListDone (inject-poison lines (state-of l) p) lines l code l
-    inject-refusal code h f = list-done (inject-refused lines (state-of l) p code (address-code code h) f) refl (λ g. refl) v
+        → InjectDone lines l p code false l
+    inject-refusal code h f =
+        record {
+          done = list-done (inject-refused lines (state-of l) p code (address-code code h) f) refl (λ g. refl) v;
+          added = refused-adds lines (state-of l) p code (address-code code h) f;
+        }
 
     pub clear-refusal : (time code : ℕ) → code ≡ line-code lines address → (code ≡ 0 → ⊥)
         → ListDone (clear-poison lines (state-of l) p time) lines l code l
@@ -114,16 +137,20 @@ module _ (lines : ℕ) (l : PoisonList) (p : List ℕ) (address : ℕ) (e : addr
       below : line-of (field p 0 8) < lines
       below = line-inside lines (field p 0 8) at-field
 
-      pub inject-done : (b : Bool) (r : PoisonList) {code : ℕ} → Injects l (line-of address) b r → code ≡ need b inject-limit 0 → ListDone (inject-poison lines (state-of l) p) lines l code r
-      inject-done b r {code} a h = subst (λ (c : ℕ). ListDone (inject-poison lines (state-of l) p) lines l c r) (sym h) (go b here)
+      pub inject-done : (b more : Bool) (r : PoisonList) {code : ℕ} → Injects l (line-of address) b more r → code ≡ need b inject-limit 0 → InjectDone lines l p code more r
+      inject-done b more r {code} a h =
+          record {
+            done = subst (λ (c : ℕ). ListDone (inject-poison lines (state-of l) p) lines l c r) (sym h) (go b here);
+            added = here .added ∙ taken-adds lines (state-of l) p at-field;
+          }
         where
-          here : Injects l (line-of (field p 0 8)) b r
-          here = subst (λ (x : ℕ). Injects l (line-of x) b r) e a
+          here : Injects l (line-of (field p 0 8)) b more r
+          here = subst (λ (x : ℕ). Injects l (line-of x) b more r) e a
 
           either : (c : Bool) → injects (state-of l) (line-of (field p 0 8)) ≡ c → state-of r ≡ cond c (after-inject (state-of l) (line-of (field p 0 8))) (state-of l)
           either c d = here .state ∙ ap (λ (x : Bool). cond x (after-inject (state-of l) (line-of (field p 0 8))) (state-of l)) d
 
-          go : (c : Bool) → Injects l (line-of (field p 0 8)) c r → ListDone (inject-poison lines (state-of l) p) lines l (need c inject-limit 0) r
+          go : (c : Bool) → Injects l (line-of (field p 0 8)) c more r → ListDone (inject-poison lines (state-of l) p) lines l (need c inject-limit 0) r
           go true i = list-done (inject-taken lines (state-of l) p at-field (sym (i .done))) (either true (sym (i .done))) (λ f. absurd (f refl)) (i .valid lines v below)
           go false i = list-done (inject-full lines (state-of l) p at-field (sym (i .done))) (either false (sym (i .done))) (λ f. i .refused refl) (i .valid lines v below)
 
@@ -168,7 +195,7 @@ module _ {units lines : ℕ} (few : units ≤ most-units) (e : lines ≡ unit-li
 
 module _ (d : Device) (lines : ℕ) (v : ValidDevice d) (e : lines ≡ unit-lines * (d .volatile + d .persistent)) where
   pub list-read : (p : List ℕ) {r : Done} {before after : List ℕ} → Replied (get-poison-list lines (state-of (d .poison)) p) r before after
-      → Answered (reads (D.state-of d) (get-poison-list (D.lines-of (D.state-of d)) (state-of (d .poison)) p)) d (record { code = r .code; length = r .length; device = d }) before after
+      → Answered (reads (D.state-of d) (get-poison-list (D.lines-of (D.state-of d)) (state-of (d .poison)) p)) d (record { code = r .code; length = r .length; vector = None; device = d }) before after
   list-read p {r} {before} {after} a =
       let b : Replied (get-poison-list (D.lines-of (D.state-of d)) (state-of (d .poison)) p) r before after
       = subst (λ (n : ℕ). Replied (get-poison-list n (state-of (d .poison)) p) r before after) e a in
@@ -179,6 +206,7 @@ module _ (d : Device) (lines : ℕ) (v : ValidDevice d) (e : lines ≡ unit-line
       (record {
         code = code;
         length = 0;
+        vector = None;
         device = record { volatile = d .volatile; persistent = d .persistent; clock = d .clock; policy = d .policy; logs = d .logs; poison = r };
       })
       before before

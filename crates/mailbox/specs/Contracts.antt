@@ -2,6 +2,7 @@
 -- Assumes nothing.
 use Prim.Native.Nat.{ℕ}
 use mathlib.Core.Path.{_≡_}
+use mathlib.Core.Bool.{Bool}
 use mathlib.Core.List.{List}
 use lib.ListN.{length}
 use Rattle.wire.specs.Returns.{success}
@@ -19,8 +20,9 @@ use Rattle.mailbox.specs.declared.device_calls.EventAnswer.{EventAnswer}
 use Rattle.mailbox.specs.declared.device_calls.MediaAnswer.{MediaAnswer}
 use Rattle.mailbox.specs.declared.device_calls.LineAnswer.{LineAnswer}
 use Rattle.mailbox.specs.State.{ValidDevice, state-of}
+use Rattle.mailbox.specs.Vector.{Carries}
 use Rattle.mailbox.specs.Outcome.{Reply, Outcome}
-use Rattle.mailbox.specs.PoisonCommands.{ListChange}
+use Rattle.mailbox.specs.PoisonCommands.{ListChange, inject-poison, inject-adds}
 use Rattle.mailbox.specs.DeviceCalls.{MakeOutcome, EventOutcome, MediaOutcome, LineOutcome}
 
 -- a command that reads, with the reply buffer before and after it: "On Success of length n the first n reply bytes are written, the others stay."
@@ -36,10 +38,16 @@ pub record ListDone (o : ListChange) (lines : ℕ) (l : PoisonList) (c : ℕ) (r
   pub refused : (c ≡ success → ⊥) → r ≡ l
   pub valid : P.ValidList lines r
 
--- `command`: number, length, next device, every byte of the buffer; the premise given back; a refusal hands back the very same device
+-- Inject Poison in the list: the same, and whether it added an entry (a)
+pub record InjectDone (lines : ℕ) (l : PoisonList) (p : List ℕ) (c : ℕ) (a : Bool) (r : PoisonList) : Type 0 where
+  pub done : ListDone (inject-poison lines (P.state-of l) p) lines l c r
+  pub added : a ≡ inject-adds lines (P.state-of l) p
+
+-- `command`: number, length, vector, next device, every byte of the buffer; the premise given back; a refusal hands back the very same device
 pub record Answered (o : Outcome) (d : Device) (r : Answer) (before after : List ℕ) : Type 0 where
   pub code : r .code ≡ o .code
   pub size : r .length ≡ length (o .reply)
+  pub vector : Carries (o .vector) (r .vector)
   pub next : state-of (r .device) ≡ o .next
   pub bytes : after ≡ splice 0 (o .reply) before
   pub refused : (r .code ≡ success → ⊥) → r .device ≡ d
@@ -55,6 +63,7 @@ pub record Makes (o : MakeOutcome) (r : Made) : Type 0 where
 pub record EventDone (o : EventOutcome) (d : Device) (r : EventAnswer) : Type 0 where
   pub code : r .code ≡ o .code
   pub stored : r .stored ≡ o .stored
+  pub vector : Carries (o .vector) (r .vector)
   pub next : state-of (r .device) ≡ o .next
   pub refused : (r .code ≡ success → ⊥) → r .device ≡ d
   pub valid : ValidDevice (r .device)

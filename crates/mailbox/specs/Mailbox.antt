@@ -1,9 +1,10 @@
 -- What the mailbox answers to any opcode, payload, caller's time and size of the reply buffer: demand 2 for the commands. Assumes nothing.
 use Prim.Native.Nat.{ℕ}
 use mathlib.Core.Bool.{cond}
-use mathlib.Core.List.{List}
+use mathlib.Core.List.{List, []}
 use lib.Dec.{eqb}
 use lib.ListN.{length}
+use Rattle.wire.specs.Wire.{field}
 use Rattle.wire.specs.Returns.{success, unsupported, need}
 use Rattle.mailbox.specs.State.{DeviceState, lines-of, with-clock, with-policy, with-poison}
 use Rattle.mailbox.specs.Outcome.{Outcome, reads, changes, refused}
@@ -13,11 +14,28 @@ use Rattle.mailbox.specs.Policy.{get-policy, set-policy}
 use Rattle.mailbox.specs.EffectsLog.{get-supported-logs, get-log}
 use Rattle.mailbox.specs.Identity.{identify}
 use Rattle.mailbox.specs.EventCommands.{get-event-records, clear-event-records}
-use Rattle.mailbox.specs.PoisonCommands.{ListChange, get-poison-list, inject-poison, clear-poison}
+use Rattle.mailbox.specs.PoisonCommands.{ListChange, get-poison-list, inject-poison, inject-adds, injection-record, clear-poison}
+use Rattle.mailbox.specs.DeviceCalls.{EventOutcome, event-report}
 
 -- the outcome of a command that changes the poison list
 abbrev pub changes-list : DeviceState → ListChange → Outcome
 changes-list d c = changes (c .code) (with-poison d (c .list))
+
+-- the outcome of a command that reports an event: its own number, whatever the report answers; the report's vector, and the device after the report
+abbrev pub reports : ℕ → EventOutcome → Outcome
+reports code e = record { code = code; reply = []; vector = e .vector; next = e .next }
+
+-- the device with the list after an Inject Poison
+abbrev pub injected : DeviceState → List ℕ → DeviceState
+injected d p = with-poison d (inject-poison (lines-of d) (d .poison) p .list)
+
+-- 4301h (document 02, W-204): "an Inject Poison that adds an entry also reports an event to log 0 .. If log 0 is full the event is counted as overflow and the
+-- injection stands."
+unfoldable pub inject : DeviceState → List ℕ → ℕ → Outcome
+inject d p time =
+    cond (inject-adds (lines-of d) (d .poison) p)
+    (reports success (event-report (injected d p) time 0 (injection-record (field p 0 8))))
+    (changes-list d (inject-poison (lines-of d) (d .poison) p))
 
 -- the command of an opcode, after the checks before its own
 unfoldable pub run-command : DeviceState → ℕ → List ℕ → ℕ → Outcome
@@ -32,7 +50,7 @@ run-command d op p time =
     (cond (eqb op 0x0401) (reads d (get-log p))
     (cond (eqb op 0x4000) (reads d (identify (d .volatile) (d .persistent)))
     (cond (eqb op 0x4300) (reads d (get-poison-list (lines-of d) (d .poison) p))
-    (cond (eqb op 0x4301) (changes-list d (inject-poison (lines-of d) (d .poison) p))
+    (cond (eqb op 0x4301) (inject d p time)
     (cond (eqb op 0x4302) (changes-list d (clear-poison (lines-of d) (d .poison) p (device-time (d .clock) time)))
     (refused unsupported d))))))))))))
 

@@ -1,13 +1,13 @@
 -- The poison commands: the checks of an address, then the list layer's definitions (document 01, "Poison list"). "Sums are of whole numbers."
 -- Assumes nothing.
 use Prim.Native.Nat.{ℕ, _+_, _/_, _%_}
-use mathlib.Core.Bool.{Bool, cond}
+use mathlib.Core.Bool.{Bool, false, cond}
 use mathlib.Core.List.{List, _++_}
 use lib.Dec.{leb, ltb, eqb}
-use lib.ListN.{length, take}
-use Rattle.wire.specs.Wire.{le, field}
+use lib.ListN.{length, take, replicate}
+use Rattle.wire.specs.Wire.{le, field, splice}
 use Rattle.poison.specs.State.{PoisonState}
-use Rattle.poison.specs.Inject.{injects, after-inject}
+use Rattle.poison.specs.Inject.{injects, adds, after-inject}
 use Rattle.poison.specs.Clear.{after-clear}
 use Rattle.poison.specs.Range.{sharing, records-bytes}
 use Rattle.wire.specs.Returns.{success, invalid-input, invalid-address, inject-limit, need}
@@ -40,6 +40,14 @@ inject-poison lines s p =
     need (eqb (line-code lines (field p 0 8)) success) (record { code = line-code lines (field p 0 8); list = s })
     (need (injects s (line-of (field p 0 8))) (record { code = inject-limit; list = s })
     (record { code = success; list = after-inject s (line-of (field p 0 8)) }))
+
+-- whether an Inject Poison adds an entry (document 02, W-204): its line passes the checks, is not covered, and there is room
+unfoldable pub inject-adds : ℕ → PoisonState → List ℕ → Bool
+inject-adds lines s p = need (eqb (line-code lines (field p 0 8)) success) false (adds s (line-of (field p 0 8)))
+
+-- the record of the event that it then reports: "a record of 128 zero bytes with length 128 at byte 16, the address at bytes 48 to 55"
+unfoldable pub injection-record : ℕ → List ℕ
+injection-record address = splice 48 (le 8 address) (splice 16 (le 1 128) (replicate 128 0))
 
 -- 4302h, address 8, data 64, at a device time: "unaligned 0002h; outside 000Fh; uncovered, Success. Else ..". The data is the caller's to write.
 unfoldable pub clear-poison : ℕ → PoisonState → List ℕ → ℕ → ListChange

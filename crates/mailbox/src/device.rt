@@ -1,6 +1,8 @@
 // The device: what it holds, how it is made, and its mailbox.
 use crate::by_parts;
 use crate::clock::Clock;
+use crate::vector;
+use crate::vector::Vector;
 use events::log;
 use events::log::Log;
 use poison::list::PoisonList;
@@ -26,11 +28,13 @@ pub struct Device {
     pub poison: PoisonList,
 }
 
-// The answer to a command: the return number, the length of the reply, and the device that follows.
+// The answer to a command: the return number, the length of the reply, the device that follows, and the vector to raise (document 02, W-204). The vector stands last:
+// before the device it costs a copy of some 7.6 KB with every command, as compiled.
 pub struct Answer {
     pub code: u16,
     pub length: usize,
     pub device: Device,
+    pub vector: Vector,
 }
 
 // The answer of make.
@@ -95,6 +99,7 @@ impl Device {
         let clock = self.clock;
         let mut code = returns::SUCCESS;
         let mut length: usize = 0;
+        let mut vector = Vector::None;
         if by_parts::of_list(opcode) {
             let list = self.poison;
             let parts = by_parts::list_command(
@@ -111,6 +116,27 @@ impl Device {
             self.poison = next;
             code = parts.code;
             length = parts.length;
+        } else if by_parts::of_injection(opcode) {
+            let list = self.poison;
+            let log = self.logs[0];
+            let policy = self.policy;
+            let parts = by_parts::inject_command(
+                list,
+                log,
+                clock,
+                policy,
+                volatile,
+                persistent,
+                payload,
+                time,
+                reply,
+            );
+            let next = parts.list;
+            let held = parts.log;
+            self.poison = next;
+            self.logs[0] = held;
+            code = parts.code;
+            vector = vector::numbered(parts.vector);
         } else if by_parts::of_log(opcode) {
             let k = by_parts::log_named(payload);
             let log = self.logs[k];
@@ -142,6 +168,7 @@ impl Device {
             code,
             length,
             device: self,
+            vector,
         }
     }
 }

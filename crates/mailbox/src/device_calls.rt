@@ -3,6 +3,8 @@
 // second answer for a refusal, parts that do not change would be copied too.
 use crate::by_parts;
 use crate::device::Device;
+use crate::vector;
+use crate::vector::Vector;
 use events::status;
 use events::status::Status;
 use poison::line_test::LineTest;
@@ -16,6 +18,7 @@ pub struct EventAnswer {
     pub code: u16,
     pub stored: bool,
     pub device: Device,
+    pub vector: Vector,
 }
 
 pub struct MediaAnswer {
@@ -37,15 +40,18 @@ impl Device {
         ensures { λ r. ⌜ EventDone (event-report (state-of self) time log (now (event .entry))) self r ⌝ }
     {
         let clock = self.clock;
+        let policy = self.policy;
         let k = by_parts::log_at(log);
         let held = self.logs[k];
-        let parts = by_parts::event_report_in(held, clock, time, log, event);
+        let parts = by_parts::event_report_in(held, clock, policy, time, log, event);
         let next = parts.log;
         self.logs[k] = next;
+        let vector = vector::numbered(parts.vector);
         EventAnswer {
             code: parts.code,
             stored: parts.stored,
             device: self,
+            vector,
         }
     }
 

@@ -12,3 +12,4 @@ mod identity;
 mod outcome;
 mod poison_commands;
 mod policy;
+pub mod vector;

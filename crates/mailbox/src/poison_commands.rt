@@ -6,8 +6,8 @@ use poison::inject;
 use poison::range;
 use wire::returns;
 ghost use mathlib.Core.Path.{_≡_};
-ghost use mathlib.Core.Bool.{cond};
-ghost use Prim.Native.Nat.{_+_, _≤_, _<_};
+ghost use mathlib.Core.Bool.{Bool, cond};
+ghost use Prim.Native.Nat.{ℕ, _+_, _≤_, _<_};
 ghost use lib.Dec.{eqb, leb, ltb};
 ghost use lib.ListN.{length};
 ghost use Rattle.wire.specs.Wire.{splice};
@@ -15,8 +15,8 @@ ghost use Rattle.poison.specs.State.{capacity, list-of, state-of, ValidSlots};
 ghost use Rattle.wire.specs.Returns.{invalid-input, invalid-address, inject-limit, need};
 ghost use Rattle.mailbox.specs.Numbers.{poison-records};
 ghost use Rattle.mailbox.specs.PoisonCommands.{aligned, line-code, range-code};
-ghost use Rattle.mailbox.specs.PoisonCommands.{list-flags, list-header, get-poison-list, inject-poison, clear-poison};
-ghost use Rattle.mailbox.specs.Contracts.{Replied, ListDone};
+ghost use Rattle.mailbox.specs.PoisonCommands.{list-flags, list-header, get-poison-list, injection-record, clear-poison};
+ghost use Rattle.mailbox.specs.Contracts.{Replied, ListDone, InjectDone};
 
 // What a command that changes the list gives: its return number, and what it leaves of the list beside the arrays, which are changed where they lie.
 pub(crate) struct ListChanged {
@@ -24,6 +24,13 @@ pub(crate) struct ListChanged {
     pub count: usize,
     pub overflow: bool,
     pub since: u64,
+}
+
+// What Inject Poison gives: its return number, the number of entries after it, and whether it added one.
+pub(crate) struct ListInjected {
+    pub code: u16,
+    pub count: usize,
+    pub added: bool,
 }
 
 // The first of two return numbers that refuses, 0 where none does: what is checked first decides.
@@ -80,39 +87,46 @@ pub(crate) fn check_range(lines: u32, address: u64, n: u64) -> u16
     first_refusal(aligned, inside)
 }
 
-// Inject Poison.
+// Inject Poison in the list; the flag and its time stay as they are, whatever they are.
 pub(crate) fn inject(
     starts: &mut [u32; 256],
     lengths: &mut [u32; 256],
     kinds: &mut [u8; 256],
     count: usize,
-    overflow: bool,
-    since: u64,
     lines: u32,
     payload: &[u8],
-) -> ListChanged
+) -> ListInjected
     requires { ⌜ ValidSlots lines count (now starts) (now lengths) (now kinds) × (lines ≤ capacity) × (length (now payload) ≡ 8) ⌝ }
-    ensures { λ r. ⌜ ListDone (inject-poison lines (state-of (list-of (now (starts .entry)) (now (lengths .entry)) (now (kinds .entry)) count overflow since)) (now (payload .entry))) lines (list-of (now (starts .entry)) (now (lengths .entry)) (now (kinds .entry)) count overflow since) (r .code) (list-of (now (starts .exit)) (now (lengths .exit)) (now (kinds .exit)) (r .count) (r .overflow) (r .since)) ⌝ }
+    ensures { λ r. ⌜ ((overflow : Bool) → (since : ℕ) → InjectDone lines (list-of (now (starts .entry)) (now (lengths .entry)) (now (kinds .entry)) count overflow since) (now (payload .entry)) (r .code) (r .added) (list-of (now (starts .exit)) (now (lengths .exit)) (now (kinds .exit)) (r .count) overflow since)) ⌝ }
 {
     let address = wire::get(payload, 0, 8);
     let code = check_line(lines, address);
     if code != returns::SUCCESS {
-        return ListChanged {
+        return ListInjected {
             code,
             count,
-            overflow,
-            since,
+            added: false,
         };
     }
     let line = (address / 64) as u32;
     let injected = inject::inject_in(starts, lengths, kinds, count, line);
     let code = inject_code(injected.done);
-    ListChanged {
+    ListInjected {
         code,
         count: injected.count,
-        overflow,
-        since,
+        added: injected.added,
     }
+}
+
+// The record of the event that an injection reports where it adds an entry: 128 bytes, its length at byte 16, the address at bytes 48 to 55 (document 02, W-204). Handle and
+// time are the report's to set.
+pub(crate) fn injection_record(address: u64) -> [u8; 128]
+    ensures { λ r. ⌜ r ≡ injection-record address ⌝ }
+{
+    let mut record = [0u8; 128];
+    wire::put(&mut record, 16, 1, 128);
+    wire::put(&mut record, 48, 8, address);
+    record
 }
 
 // The return number of an injection past the checks of its line.

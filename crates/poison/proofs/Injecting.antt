@@ -16,25 +16,26 @@ use Rattle.poison.proofs.Validity.{valid-insert}
 
 module _ {l : PoisonList} {k at : ℕ} (o : Searched l k at) where
   -- the line is covered
-  pub covered-already : at < l .count → Injects l k true l
+  pub covered-already : at < l .count → Injects l k true false l
   covered-already h =
       let f = covered-line o h in
-      record { done = rw f; state = rw f; refused = λ z. absurd (true≢false z); valid = λ m v h. v }
+      record { done = rw f; added = rw f; state = rw f; refused = λ z. absurd (true≢false z); valid = λ m v h. v }
 
   -- it is not, and 256 are held
-  pub no-room : l .count ≤ at → l .count ≡ slots → Injects l k false l
+  pub no-room : l .count ≤ at → l .count ≡ slots → Injects l k false false l
   no-room h e =
       let f = uncovered-line o h in
       let n = le-ltb (length (entries-of l)) slots (omega (arith, length-entries l (o .sized) (o .few), e)) in
-      record { done = rw (f, n); state = rw (f, n); refused = λ z. refl; valid = λ m v h. v }
+      record { done = rw (f, n); added = rw (f, n); state = rw (f, n); refused = λ z. refl; valid = λ m v h. v }
 
   -- it is not, and an entry of one line is put in
-  pub put-in : {r : PoisonList} → l .count ≤ at → l .count < slots → Inserted l k 1 3 r → Injects l k true r
+  pub put-in : {r : PoisonList} → l .count ≤ at → l .count < slots → Inserted l k 1 3 r → Injects l k true true r
   put-in {r} h less i =
       let f = uncovered-line o h in
       let n = lt-ltb (length (entries-of l)) slots (omega (arith, length-entries l (o .sized) (o .few))) in
       record {
         done = rw (f, n);
+        added = rw (f, n);
         state = rw (f, n) (i .state);
         refused = λ z. absurd (true≢false z);
         valid =

@@ -13,7 +13,7 @@ use Rattle.poison.specs.declared.list.PoisonList.{PoisonList}
 use Rattle.poison.specs.Runs.{Run, run, end, in-run, in-runs, count, Chain, cut, slots, uncovered, room, keeps, before, after}
 use Rattle.poison.specs.State.{Entry, PoisonState, shape, shapes, entry, covers, kind-at, insert-entry, insert-entries, entries-of, Typed, ValidList, runs-in, ValidSlots}
 use Rattle.poison.specs.Report.{found, stored-runs, report-entries, lines-stored, lines-dropped, with-drop, after-report}
-use Rattle.poison.specs.Inject.{with-entry, injects, after-inject}
+use Rattle.poison.specs.Inject.{with-entry, injects, adds, after-inject}
 use Rattle.poison.specs.Clear.{cut-entries, after-clear}
 use Rattle.poison.proofs.Moves.{nought}
 use Rattle.poison.proofs.Counts.{or-left, or-right, Place, low, mid, high, place, count-chain, count-cong}
@@ -122,6 +122,31 @@ chain-clear n k keep es c = rw (shapes-cut keep k es) (chain-cut 0 n keep k (sha
 pub chain-length : (lo hi : ℕ) (es : List Entry) → Chain lo hi (shapes es) → lo + length es ≤ hi
 chain-length lo hi [] c = omega arith
 chain-length lo hi (e ∷ es) c = let i = chain-length (end (shape e)) hi es (c .2) in omega arith
+
+-- ---- an injection that adds an entry, and one that adds none (document 02, W-204)
+-- One that adds an entry is taken,
+pub adds-taken : (s : PoisonState) (k : ℕ) → adds s k ≡ true → injects s k ≡ true
+adds-taken s k e = go (covers (s .entries) k) (ltb (length (s .entries)) slots) e
+  where
+    go : (c b : Bool) → (not c && b) ≡ true → (c || b) ≡ true
+    go true b e = refl
+    go false b e = e
+
+-- and the list has that entry after it.
+pub adds-entry : (s : PoisonState) (k : ℕ) → adds s k ≡ true → after-inject s k ≡ with-entry s k
+adds-entry s k e = go (covers (s .entries) k) (ltb (length (s .entries)) slots) e
+  where
+    go : (c b : Bool) → (not c && b) ≡ true → cond c s (with-entry s k) ≡ with-entry s k
+    go true b e = absurd (false≢true e)
+    go false b e = refl
+
+-- One that is taken and adds none is at a covered line: nothing changes.
+pub adds-none : (s : PoisonState) (k : ℕ) → injects s k ≡ true → adds s k ≡ false → after-inject s k ≡ s
+adds-none s k i e = go (covers (s .entries) k) (ltb (length (s .entries)) slots) i e
+  where
+    go : (c b : Bool) → (c || b) ≡ true → (not c && b) ≡ false → cond c s (with-entry s k) ≡ s
+    go true b i e = refl
+    go false b i e = absurd (true≢false (sym i ∙ e))
 
 -- ---- at most 256 entries
 -- as many entries more as are put in

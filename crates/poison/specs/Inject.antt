@@ -1,6 +1,6 @@
 -- Inject Poison (document 01, "Poison list"): "covered, Success and nothing changes; 256 held, 0010h; else a one-line entry of type 3."
 use mathlib.Core.Path.{_≡_}
-use mathlib.Core.Bool.{Bool, false, _||_, cond}
+use mathlib.Core.Bool.{Bool, false, not, _&&_, _||_, cond}
 use Prim.Native.Nat.{ℕ, _<_}
 use lib.Dec.{ltb}
 use lib.ListN.{length}
@@ -16,13 +16,19 @@ with-entry s k = record { entries = insert-entry (entry 3 (run k 1)) (s .entries
 abbrev pub injects : PoisonState → ℕ → Bool
 injects s k = covers (s .entries) k || ltb (length (s .entries)) slots
 
+-- whether an injection at line k adds an entry (document 02, W-204): the line is not covered, and there is room
+abbrev pub adds : PoisonState → ℕ → Bool
+adds s k = not (covers (s .entries) k) && ltb (length (s .entries)) slots
+
 -- the list after an injection at line k that is taken
 abbrev pub after-inject : PoisonState → ℕ → PoisonState
 after-inject s k = cond (covers (s .entries) k) s (with-entry s k)
 
--- what the code's injection ensures of the list before, the list after, and whether it was taken; one that is not taken leaves the very same list
-pub record Injects (l : PoisonList) (k : ℕ) (b : Bool) (r : PoisonList) : Type 0 where
+-- what the code's injection ensures of the list before, the list after, whether it was taken and whether it added an entry; one that is not taken leaves the
+-- very same list
+pub record Injects (l : PoisonList) (k : ℕ) (b a : Bool) (r : PoisonList) : Type 0 where
   pub done : b ≡ injects (state-of l) k
+  pub added : a ≡ adds (state-of l) k
   pub state : state-of r ≡ cond (injects (state-of l) k) (after-inject (state-of l) k) (state-of l)
   pub refused : b ≡ false → r ≡ l
   pub valid : (m : ℕ) → ValidList m l → k < m → ValidList m r

@@ -2,7 +2,7 @@
 use mathlib.Core.Path.{_≡_, refl, sym, ap, ap₂, _∙_}
 use mathlib.Core.Bool.{Bool, true, cond}
 use mathlib.Core.List.{List, [], _∷_}
-use Prim.Native.Nat.{ℕ, _-_}
+use Prim.Native.Nat.{ℕ, _+_, _-_, _≤_, _<_}
 use native.Mathlib.Omega.{arith}
 use lib.ListN.{length, drop, getD, length-replicate}
 use borrow.Author.Tests.{ne-eqb}
@@ -15,28 +15,29 @@ use Rattle.mailbox.specs.declared.device_calls.EventAnswer.{EventAnswer}
 use Rattle.mailbox.specs.declared.device_calls.MediaAnswer.{MediaAnswer}
 use Rattle.mailbox.specs.declared.device_calls.LineAnswer.{LineAnswer}
 use Rattle.mailbox.specs.State.{DeviceState, ValidDevice, state-of}
+use Rattle.mailbox.specs.Vector.{vector-number}
 use Rattle.mailbox.specs.DeviceCalls.{event-status, damage-total}
 use Rattle.mailbox.specs.Contracts.{Answered, Makes, EventDone, MediaDone, LineDone, StatusGiven}
 use Rattle.poison.specs.LineTest.{answer-number, answer-type}
 use Rattle.protocol.specs.declared.calls.Served.{Served}
-use Rattle.protocol.specs.Text.{numbers-line}
+use Rattle.protocol.specs.Text.{column, line-end, numbers-line}
 use Rattle.protocol.specs.Records.{mark-of, NW, CM, EV, MD, LT, ES, DT, RQ, RP, RW, WK}
 use Rattle.protocol.specs.Calls.{new-call, media-call, line-call}
-use Rattle.protocol.specs.Contracts.{PutsLine, Serves}
-use Rattle.protocol.proofs.Laws.{reply-fits, puts-line-as, serves-as}
-use Rattle.host_records.specs.Lines.{still, buffer-line}
+use Rattle.protocol.specs.Contracts.{Puts, PutsLine, Serves}
+use Rattle.protocol.proofs.Laws.{reply-fits, length-column, puts-then, puts-line-as, serves-as}
+use Rattle.host_records.specs.Lines.{still, buffer-columns}
 use Rattle.host_records.proofs.Laws.{always-kept}
 use Rattle.host_records.specs.HostRequests.{serve-request}
 use Rattle.host_records.specs.HostReplies.{serve-reply}
 use Rattle.host_records.specs.HostRewrites.{serve-again}
 use Rattle.host_records.specs.HostWalks.{serve-walk}
-use Rattle.probe.specs.Calls.{command-call, filled, event-call, serve-new, serve-command, serve-event, serve-media, serve-line, serve-status, serve-total, serve-record}
+use Rattle.probe.specs.Calls.{command-call, filled, event-call, command-line, serve-new, serve-command, serve-event, serve-media, serve-line, serve-status, serve-total, serve-record}
 
 -- a buffer of the record's room is as long as the one that was filled
 pub filled-long : (bytes buffer : List ℕ) → length buffer ≡ field bytes 12 2 → length buffer ≡ length (filled bytes)
 filled-long bytes buffer e = e ∙ sym (length-replicate (field bytes 12 2) (getD bytes 14 0))
 
--- whatever a command answers, the bytes that its reply leaves of the buffer are still as they were filled: the last column of every CM line is 1
+-- whatever a command answers, the bytes that its reply leaves of the buffer are still as they were filled: the column `kept` of every CM line is 1
 pub command-kept : (bytes after : List ℕ) {d : Device} {a : Answer} → Answered (command-call (state-of d) bytes) d a (filled bytes) after → length after ≡ length (filled bytes)
     → still (getD bytes 14 0) (drop (a .length) after) ≡ true
 command-kept bytes after {d} told kept =
@@ -50,24 +51,34 @@ pub new-served : (bytes : List ℕ) {m : Made} {e used : ℕ} {before after : Li
 unfolding serve-new
 new-served bytes made put = record { line = puts-line-as put (ap (λ (c : ℕ). numbers-line NW (c ∷ [])) (made .code)); next = made .next; valid = made .valid }
 
-pub command-served : (bytes reply : List ℕ) {d : Device} {a : Answer} {before after : List ℕ} {used e : ℕ} → Answered (command-call (state-of d) bytes) d a (filled bytes) reply
-    → PutsLine used (buffer-line CM (a .code) (a .length) (getD bytes 14 0) reply) before after e
+-- a column ends at most 21 bytes on
+pub column-short : (n : ℕ) {at r : ℕ} {before after : List ℕ} → Puts at (column n) before after r → r ≤ at + 21
+column-short n put = omega (arith, put .end, length-column n)
+
+-- the line of a command, each piece after the one before it
+pub command-put : (code n fill vector : ℕ) (buffer : List ℕ) {used k m e : ℕ} {d₀ d₁ d₂ d₃ : List ℕ} → Puts used (buffer-columns CM code n fill buffer) d₀ d₁ k
+    → Puts k (column vector) d₁ d₂ m → Puts m line-end d₂ d₃ e → m < length d₀ → PutsLine used (command-line code n fill buffer vector) d₀ d₃ e
+command-put code n fill vector buffer start last end room =
+    record { puts = puts-then (puts-then start last (omega (arith, last .end))) end (omega arith); room = omega (arith, end .end) }
+
+pub command-served : (bytes reply : List ℕ) {d : Device} {a : Answer} {before after : List ℕ} {used e vector : ℕ} → Answered (command-call (state-of d) bytes) d a (filled bytes) reply
+    → vector ≡ vector-number (a .vector) → PutsLine used (command-line (a .code) (a .length) (getD bytes 14 0) reply vector) before after e
     → Serves (serve-command (state-of d) bytes) used (record { used = e; device = a .device }) before after
 unfolding serve-command
-command-served bytes reply told put =
+command-served bytes reply told number put =
     record {
-      line = puts-line-as put (λ i. buffer-line CM (told .code i) (told .size i) (getD bytes 14 0) (told .bytes i));
+      line = puts-line-as put (λ i. command-line (told .code i) (told .size i) (getD bytes 14 0) (told .bytes i) ((number ∙ told .vector .number) i));
       next = told .next;
       valid = told .valid;
     }
 
-pub event-served : (bytes : List ℕ) {d : Device} {a : EventAnswer} {before after : List ℕ} {used e stored : ℕ} → EventDone (event-call (state-of d) bytes) d a
-    → stored ≡ cond (a .stored) 1 0 → PutsLine used (numbers-line EV (a .code ∷ stored ∷ [])) before after e
+pub event-served : (bytes : List ℕ) {d : Device} {a : EventAnswer} {before after : List ℕ} {used e stored vector : ℕ} → EventDone (event-call (state-of d) bytes) d a
+    → stored ≡ cond (a .stored) 1 0 → vector ≡ vector-number (a .vector) → PutsLine used (numbers-line EV (a .code ∷ stored ∷ vector ∷ [])) before after e
     → Serves (serve-event (state-of d) bytes) used (record { used = e; device = a .device }) before after
 unfolding serve-event
-event-served bytes told bit put =
+event-served bytes told bit number put =
     record {
-      line = puts-line-as put (λ i. numbers-line EV (told .code i ∷ (bit ∙ ap (λ (b : Bool). cond b 1 0) (told .stored)) i ∷ []));
+      line = puts-line-as put (λ i. numbers-line EV (told .code i ∷ (bit ∙ ap (λ (b : Bool). cond b 1 0) (told .stored)) i ∷ (number ∙ told .vector .number) i ∷ []));
       next = told .next;
       valid = told .valid;
     }

@@ -1,6 +1,6 @@
 -- An example of the probe program, from the bytes of its input to the bytes of its output, by computation with the definitions that the contracts cite: a refused
 -- make whose device is used on, refused calls with their whole answers, a buffer too small and one large enough, status and total, a walk, requests and replies of the
--- host library, a later make, and a mark that is not there yet. Assumes nothing.
+-- host library, a later make, a vector raised by a report and one by an injection, a report that raises none, and a mark that is not there yet. Assumes nothing.
 use mathlib.Core.Path.{_≡_, refl}
 use mathlib.Core.List.{List, [], _∷_, _++_}
 use Prim.Native.Nat.{ℕ}
@@ -18,7 +18,7 @@ use Rattle.host_replies.specs.Replies.{read-timestamp, list-fields, read-poison
 use Rattle.host.specs.Walk.{halves, walked, walk}
 use Rattle.host.specs.Walking.{walk-on}
 use Rattle.protocol.specs.HostFormats.{request-head, request-within, request-rest}
-use Rattle.host_records.specs.Lines.{still, buffer-line, written-line}
+use Rattle.host_records.specs.Lines.{still, buffer-columns, buffer-line, written-line}
 use Rattle.host_records.specs.HostRequests.{request-of, request-built, serve-request}
 use Rattle.host_records.specs.HostReplies.{each-of, record-columns, refusal-line, line-of, reply-line, serve-reply}
 use Rattle.host_records.specs.HostRewrites.{read-then, written-again, serve-again}
@@ -27,7 +27,8 @@ use Rattle.probe.specs.Calls.{serve-new, serve-command, serve-event, ser
 
 -- "NW 0 0; LT at the last line of one unit, and past it; CM 0300h with a room of 0, and of 2,048 bytes of 55h; EV of one byte; MD of type 3; MD address 64, 2 lines,
 -- type 1; DT; ES; WK address 0, 4 lines, with a room of 17 bytes of AAh, and of 15; RQ 0100h log 3; RQ 0301h with a room of 7; RQ 0101h log 1 and handles 1, 2;
--- RW 0300h; RP 0300h of 8 bytes, and of 7; RP 4300h with one record, and with its byte 1 set; NW 1 0; DT; PC"
+-- RW 0300h; RP 0300h of 8 bytes, and of 7; RP 4300h with one record, and with its byte 1 set; NW 1 0; DT;
+-- CM 0103h of 01 00 00 00 01; EV of 128 zero bytes to log 4; CM 4301h at address 64; the EV to log 0; PC"
 input : List ℕ
 input =
     (78 ∷ 87 ∷ 0 ∷ 0 ∷ 0 ∷ 0 ∷ [])
@@ -52,19 +53,24 @@ input =
     ++ (82 ∷ 80 ∷ 0 ∷ 67 ∷ 0 ∷ 0 ∷ 0 ∷ 0 ∷ 48 ∷ 0 ∷ 0 ∷ 1 ∷ []) ++ replicate 8 0 ++ (1 ∷ []) ++ replicate 21 0 ++ (65 ∷ []) ++ replicate 7 0 ++ (2 ∷ []) ++ replicate 7 0
     ++ (78 ∷ 87 ∷ 1 ∷ 0 ∷ 0 ∷ 0 ∷ [])
     ++ (68 ∷ 84 ∷ [])
+    ++ (67 ∷ 77 ∷ []) ++ replicate 8 0 ++ (3 ∷ 1 ∷ 0 ∷ 8 ∷ 85 ∷ 5 ∷ 0 ∷ 1 ∷ 0 ∷ 0 ∷ 0 ∷ 1 ∷ [])
+    ++ (69 ∷ 86 ∷ []) ++ replicate 8 0 ++ (4 ∷ 128 ∷ 0 ∷ []) ++ replicate 128 0
+    ++ (67 ∷ 77 ∷ []) ++ replicate 8 0 ++ (1 ∷ 67 ∷ 0 ∷ 8 ∷ 85 ∷ 8 ∷ 0 ∷ 64 ∷ []) ++ replicate 7 0
+    ++ (69 ∷ 86 ∷ []) ++ replicate 8 0 ++ (0 ∷ 128 ∷ 0 ∷ []) ++ replicate 128 0
     ++ (80 ∷ 67 ∷ [])
 
--- "NW 2", "LT 0 0 0", "LT 15 2 0", "CM 256 0 - 1", "CM 0 8 0000000000000000 1", "EV 22 0", "MD 2 0 0", "MD 0 2 0", "DT 2", "ES 0 0 5",
+-- "NW 2", "LT 0 0 0", "LT 15 2 0", "CM 256 0 - 1 0", "CM 0 8 0000000000000000 1 0", "EV 22 0 0", "MD 2 0 0", "MD 0 2 0", "DT 2", "ES 0 0 5",
 -- "WK 0 16 41000000000000000200000000000000 1", "WK 256 0 - 1", "RQ 0 1 03 1", "RQ 256 0 - 1", "RQ 0 10 01000200000001000200 1",
--- "RW 0 8 0102030405060708 1", "RP 0 1", "RP 22", "RP 0 0 0 1 64 1 2", "RP 2 1", "NW 0", "DT 0", "BAD 388"
+-- "RW 0 8 0102030405060708 1", "RP 0 1", "RP 22", "RP 0 0 0 1 64 1 2", "RP 2 1", "NW 0", "DT 0", "CM 0 0 - 1 0", "EV 0 1 2",
+-- "CM 0 0 - 1 2", "EV 0 1 0", "BAD 717"
 output : List ℕ
 output =
     (78 ∷ 87 ∷ 32 ∷ 50 ∷ 10 ∷ [])
     ++ (76 ∷ 84 ∷ 32 ∷ 48 ∷ 32 ∷ 48 ∷ 32 ∷ 48 ∷ 10 ∷ [])
     ++ (76 ∷ 84 ∷ 32 ∷ 49 ∷ 53 ∷ 32 ∷ 50 ∷ 32 ∷ 48 ∷ 10 ∷ [])
-    ++ (67 ∷ 77 ∷ 32 ∷ 50 ∷ 53 ∷ 54 ∷ 32 ∷ 48 ∷ 32 ∷ 45 ∷ 32 ∷ 49 ∷ 10 ∷ [])
-    ++ (67 ∷ 77 ∷ 32 ∷ 48 ∷ 32 ∷ 56 ∷ 32 ∷ 48 ∷ 48 ∷ 48 ∷ 48 ∷ 48 ∷ 48 ∷ 48 ∷ 48 ∷ 48 ∷ 48 ∷ 48 ∷ 48 ∷ 48 ∷ 48 ∷ 48 ∷ 48 ∷ 32 ∷ 49 ∷ 10 ∷ [])
-    ++ (69 ∷ 86 ∷ 32 ∷ 50 ∷ 50 ∷ 32 ∷ 48 ∷ 10 ∷ [])
+    ++ (67 ∷ 77 ∷ 32 ∷ 50 ∷ 53 ∷ 54 ∷ 32 ∷ 48 ∷ 32 ∷ 45 ∷ 32 ∷ 49 ∷ 32 ∷ 48 ∷ 10 ∷ [])
+    ++ (67 ∷ 77 ∷ 32 ∷ 48 ∷ 32 ∷ 56 ∷ 32 ∷ 48 ∷ 48 ∷ 48 ∷ 48 ∷ 48 ∷ 48 ∷ 48 ∷ 48 ∷ 48 ∷ 48 ∷ 48 ∷ 48 ∷ 48 ∷ 48 ∷ 48 ∷ 48 ∷ 32 ∷ 49 ∷ 32 ∷ 48 ∷ 10 ∷ [])
+    ++ (69 ∷ 86 ∷ 32 ∷ 50 ∷ 50 ∷ 32 ∷ 48 ∷ 32 ∷ 48 ∷ 10 ∷ [])
     ++ (77 ∷ 68 ∷ 32 ∷ 50 ∷ 32 ∷ 48 ∷ 32 ∷ 48 ∷ 10 ∷ [])
     ++ (77 ∷ 68 ∷ 32 ∷ 48 ∷ 32 ∷ 50 ∷ 32 ∷ 48 ∷ 10 ∷ [])
     ++ (68 ∷ 84 ∷ 32 ∷ 50 ∷ 10 ∷ [])
@@ -81,9 +87,13 @@ output =
     ++ (82 ∷ 80 ∷ 32 ∷ 50 ∷ 32 ∷ 49 ∷ 10 ∷ [])
     ++ (78 ∷ 87 ∷ 32 ∷ 48 ∷ 10 ∷ [])
     ++ (68 ∷ 84 ∷ 32 ∷ 48 ∷ 10 ∷ [])
-    ++ (66 ∷ 65 ∷ 68 ∷ 32 ∷ 51 ∷ 56 ∷ 56 ∷ 10 ∷ [])
+    ++ (67 ∷ 77 ∷ 32 ∷ 48 ∷ 32 ∷ 48 ∷ 32 ∷ 45 ∷ 32 ∷ 49 ∷ 32 ∷ 48 ∷ 10 ∷ [])
+    ++ (69 ∷ 86 ∷ 32 ∷ 48 ∷ 32 ∷ 49 ∷ 32 ∷ 50 ∷ 10 ∷ [])
+    ++ (67 ∷ 77 ∷ 32 ∷ 48 ∷ 32 ∷ 48 ∷ 32 ∷ 45 ∷ 32 ∷ 49 ∷ 32 ∷ 50 ∷ 10 ∷ [])
+    ++ (69 ∷ 86 ∷ 32 ∷ 48 ∷ 32 ∷ 49 ∷ 32 ∷ 48 ∷ 10 ∷ [])
+    ++ (66 ∷ 65 ∷ 68 ∷ 32 ∷ 55 ∷ 49 ∷ 55 ∷ 10 ∷ [])
 
 -- the definitions give these lines
 example : printed probe 30 (new-device 1 0) 0 input ≡ output
-unfolding printed input output rules numeral columns hex bad-line last-line whole tells front-size fixed head size probe-least probe-fixed probe-head probe-within probe-rest probe-size still buffer-line serve-new serve-command serve-event serve-media serve-line serve-status serve-total serve-request serve-walk serve-reply reply-line line-of refusal-line each-of record-columns serve-again written-again read-then read-timestamp write-bytes read-poison-list list-fields poison-record verdict counted first-reserved reserved record-reserved header-size record-size count-place serve-record request-head request-within request-rest written-line request-built request-of build payload countable handles-at clear-payload handle-bytes walk-on walk walked halves
+unfolding printed input output rules numeral columns hex bad-line last-line whole tells front-size fixed head size probe-least probe-fixed probe-head probe-within probe-rest probe-size still buffer-columns buffer-line serve-new serve-command serve-event serve-media serve-line serve-status serve-total serve-request serve-walk serve-reply reply-line line-of refusal-line each-of record-columns serve-again written-again read-then read-timestamp write-bytes read-poison-list list-fields poison-record verdict counted first-reserved reserved record-reserved header-size record-size count-place serve-record request-head request-within request-rest written-line request-built request-of build payload countable handles-at clear-payload handle-bytes walk-on walk walked halves
 example = refl

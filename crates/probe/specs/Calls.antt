@@ -1,9 +1,9 @@
--- Each record's call, at the fields read out of its bytes (document 10, "Records of the base"), by the mailbox's own definitions; and what serving it gives:
--- "Every answer is printed whole, also of a refused call". A field stands after the two bytes of the mark. The records of the
+-- Each record's call, at the fields read out of its bytes (document 10, "Records of the base" and the row of W-204), by the mailbox's own definitions; and what serving
+-- it gives: "Every answer is printed whole, also of a refused call". A field stands after the two bytes of the mark. The records of the
 -- host library stand in `HostRequests`, `HostReplies`, `HostRewrites` and `HostWalks`. Assumes nothing.
 use Prim.Native.Nat.{ℕ}
 use mathlib.Core.Bool.{cond}
-use mathlib.Core.List.{List, [], _∷_}
+use mathlib.Core.List.{List, [], _∷_, _++_}
 use lib.Dec.{eqb}
 use lib.ListN.{length, getD, drop, replicate}
 use Rattle.wire.specs.Wire.{field, splice}
@@ -12,12 +12,12 @@ use Rattle.mailbox.specs.Outcome.{Outcome}
 use Rattle.mailbox.specs.Mailbox.{outcome}
 use Rattle.mailbox.specs.DeviceCalls.{EventOutcome, event-report, event-status, damage-total}
 use Rattle.protocol.specs.declared.formats.Format.the-variants.{Probe}
-use Rattle.protocol.specs.Text.{numbers-line}
+use Rattle.protocol.specs.Text.{column, line-end, numbers-line}
 use Rattle.protocol.specs.Records.{mark-of, NW, CM, EV, MD, LT, ES, DT, RQ, RP, RW, WK}
 use Rattle.protocol.specs.Formats.{fixed, head, size}
 use Rattle.protocol.specs.Calls.{new-call, media-call, line-call}
 use Rattle.protocol.specs.Runs.{Printed, Program}
-use Rattle.host_records.specs.Lines.{buffer-line}
+use Rattle.host_records.specs.Lines.{buffer-columns}
 use Rattle.host_records.specs.HostRequests.{serve-request}
 use Rattle.host_records.specs.HostReplies.{serve-reply}
 use Rattle.host_records.specs.HostRewrites.{serve-again}
@@ -39,15 +39,20 @@ event-call d r = event-report d (field r 2 8) (getD r 10 0) (drop 13 r)
 unfoldable pub serve-new : List ℕ → Printed DeviceState
 serve-new r = record { line = numbers-line NW (new-call r .code ∷ []); next = new-call r .next }
 
--- `CM code length bytes kept`: the buffer with the reply at its front
+-- `CM code length bytes kept`: the buffer with the reply at its front; "`CM` and `EV` end in one more column: the vector, 0 for none" (W-204)
+abbrev pub command-line : ℕ → ℕ → ℕ → List ℕ → ℕ → List ℕ
+command-line code n fill buffer vector = (buffer-columns CM code n fill buffer ++ column vector) ++ line-end
+
 unfoldable pub serve-command : DeviceState → List ℕ → Printed DeviceState
 serve-command d r =
     let o = command-call d r in
-    record { line = buffer-line CM (o .code) (length (o .reply)) (getD r 14 0) (splice 0 (o .reply) (filled r)); next = o .next }
+    record { line = command-line (o .code) (length (o .reply)) (getD r 14 0) (splice 0 (o .reply) (filled r)) (o .vector); next = o .next }
 
--- `EV code stored` (1 or 0)
+-- `EV code stored` (1 or 0), and the vector
 unfoldable pub serve-event : DeviceState → List ℕ → Printed DeviceState
-serve-event d r = record { line = numbers-line EV (event-call d r .code ∷ cond (event-call d r .stored) 1 0 ∷ []); next = event-call d r .next }
+serve-event d r =
+    let o = event-call d r in
+    record { line = numbers-line EV (o .code ∷ cond (o .stored) 1 0 ∷ o .vector ∷ []); next = o .next }
 
 -- `MD code stored dropped`
 unfoldable pub serve-media : DeviceState → List ℕ → Printed DeviceState

@@ -1,5 +1,5 @@
-// Each record given to the device, and its line printed (document 10, "Records of the base"). A record's function gives the device that follows.
-// The records of the host library have modules of their own.
+// Each record given to the device, and its line printed (document 10, "Records of the base" and the row of W-204). A record's function gives the device that
+// follows. The records of the host library have modules of their own.
 use host_records::buffer;
 use host_records::buffer::LINE_ROOM;
 use host_records::replies;
@@ -9,6 +9,7 @@ use host_records::walks;
 use mailbox::device::Answer;
 use mailbox::device::Device;
 use mailbox::device_calls::EventAnswer;
+use mailbox::vector::vector_number;
 use poison::line_test;
 use protocol::calls;
 use protocol::calls::Served;
@@ -59,13 +60,15 @@ fn call_command(device: Device, bytes: &[u8], reply: &mut [u8]) -> Answer
     device.command(opcode, &bytes[17..], time, reply)
 }
 
-// CM: the return number, and what came back in the buffer.
+// CM: the return number, what came back in the buffer, and the vector to raise.
 fn command(device: Device, bytes: &[u8], reply: &mut [u8], out: &mut [u8], used: usize) -> Served
     requires { ⌜ ValidDevice device × (17 ≤ length (now bytes)) × (length (now reply) ≡ field (now bytes) 12 2) × (field (now bytes) 12 2 ≤ 4096) × (used + line-room ≤ length (now out)) ⌝ }
     ensures { λ r. ⌜ Serves (serve-command (state-of device) (now (bytes .entry))) used r (now (out .entry)) (now (out .exit)) ⌝ }
 {
     let answer = call_command(device, bytes, reply);
-    let end = buffer::put_line(
+    let raised = answer.vector;
+    let vector = vector_number(raised) as u64;
+    let columns = buffer::put_buffer(
         out,
         used,
         b'C',
@@ -75,6 +78,8 @@ fn command(device: Device, bytes: &[u8], reply: &mut [u8], out: &mut [u8], used:
         answer.length,
         bytes[14],
     );
+    let last = output::put_number(out, columns, vector);
+    let end = output::end_line(out, last);
     let next = answer.device;
     Served {
         used: end,
@@ -91,7 +96,7 @@ fn call_event(device: Device, bytes: &[u8]) -> EventAnswer
     device.event_report(time, bytes[10], &bytes[13..])
 }
 
-// EV: the return number, and stored or not.
+// EV: the return number, stored or not, and the vector to raise.
 fn event(device: Device, bytes: &[u8], out: &mut [u8], used: usize) -> Served
     requires { ⌜ ValidDevice device × (13 ≤ length (now bytes)) × (used + line-room ≤ length (now out)) ⌝ }
     ensures { λ r. ⌜ Serves (serve-event (state-of device) (now (bytes .entry))) used r (now (out .entry)) (now (out .exit)) ⌝ }
@@ -99,7 +104,9 @@ fn event(device: Device, bytes: &[u8], out: &mut [u8], used: usize) -> Served
     let answer = call_event(device, bytes);
     let code = answer.code as u64;
     let stored = output::bit(answer.stored);
-    let numbers = [code, stored];
+    let raised = answer.vector;
+    let vector = vector_number(raised) as u64;
+    let numbers = [code, stored, vector];
     let end = output::put_numbers(out, used, b'E', b'V', &numbers);
     let next = answer.device;
     Served {

@@ -19,7 +19,7 @@ use ghost.Atoms.{Atoms}
 use contract.Monad.{Fun, fact}
 use contract.Running.{givenOf, tables, tablesOf}
 use types.Kit.{Given, ‵, raw, some, later, _⊛_, ⋆, _$_, _∵_, !, qed, by, move, keep, drop, group, use1, split, join, pick, rewrite, fsplit, fsplit3, fjoin, fjoin3, feqL, feqI, suffices, frame, await, done}
-use types.Run.{look, init, store, forget, stop, hop, fld, from, load, bin, addr, of-opd, and-then, no-more, assigns, land, returns, enter, alloc1, alloc0, params1, pass1, pass0}
+use types.Run.{look, init, store, forget, stop, hop, fld, from, load, lit, bin, addr, of-opd, and-then, no-more, assigns, land, returns, enter, alloc1, alloc0, params1, pass1, pass0}
 use types.Part.{agg, whole, sub, look-in, store-in}
 use types.SemTy.{Body}
 use sound.WpLaws.{FmC, fmOf, WpFn-mono}
@@ -191,15 +191,15 @@ module _ {M : Type 1} (𝓤 : URA M) (H : Heap 𝓤) (A : Atoms 𝓤) (W : Given
         -- (*_15) = _7.2
         assigns ! (of-opd ! (load ! (from ! (fld ! refl (stop !))) (look-in ! 24 (sub ! 2 refl (whole !))))) (from ! (hop ! (look ! 8 refl) (stop !))) (store-in ! 4 (element-in ! LogT.the-type LogL.the-laws (h .logs) r-log-named blank (e-log-named .1) (count LogT.the-type LogL.the-laws 5 (h .logs) _ (LL.owed DeviceT.the-type DeviceL.the-laws h _ was .1 .1 .1 .1 .0)) (sub ! 4 refl (whole !))) (LL.lawful LogT.the-type LogL.the-laws 𝓤 H A W .typed (r-log-command .log) _ (LL.owed LogPartsT.the-type LogPartsL.the-laws r-log-command _ i-log-command .1 .1 .0) .0)) $
         rewrite ! 4 (λ (us : List Val). ‵ (fat fullShare DeviceL.mir b o (put-field (mach h) 4 (arrayVal us)))) (values-set LogT.the-type LogL.the-laws (h .logs) r-log-named (r-log-command .log)) refl $
-        -- _0 = {_7.0, _7.1}
-        assigns ! (agg ! (and-then ! (load ! (from ! (fld ! refl (stop !))) (look-in ! 24 (sub ! 0 refl (whole !)))) (and-then ! (load ! (from ! (fld ! refl (stop !))) (look-in ! 24 (sub ! 1 refl (whole !)))) (no-more !)))) (from ! (stop !)) (init ! 38 refl (tt, (record { fits = LL.owed LogPartsT.the-type LogPartsL.the-laws r-log-command _ i-log-command .0 .1 }, (record { fits = LL.owed LogPartsT.the-type LogPartsL.the-laws r-log-command _ i-log-command .1 .0 .1 }, tt)))) $
+        -- _0 = {_7.0, 0, _7.1}
+        assigns ! (agg ! (and-then ! (load ! (from ! (fld ! refl (stop !))) (look-in ! 24 (sub ! 0 refl (whole !)))) (and-then ! (lit ! tt) (and-then ! (load ! (from ! (fld ! refl (stop !))) (look-in ! 24 (sub ! 1 refl (whole !)))) (no-more !))))) (from ! (stop !)) (init ! 38 refl (tt, (record { fits = LL.owed LogPartsT.the-type LogPartsL.the-laws r-log-command _ i-log-command .0 .1 }, (record { fits = (omega arith) }, (record { fits = LL.owed LogPartsT.the-type LogPartsL.the-laws r-log-command _ i-log-command .1 .0 .1 }, tt))))) $
         -- return
         -- the borrow is closed
         move ! (4 ∷ []) $ use1 W (‵ (cellAt fullShare (DeviceT.the-row .mir) (mach (record { volatile = h .volatile; persistent = h .persistent; clock = h .clock; policy = h .policy; logs = set (h .logs) r-log-named (r-log-command .log); poison = h .poison }) ∷ []) b o)) (W .laws .at-raw fullShare DeviceL.mir b o (mach (record { volatile = h .volatile; persistent = h .persistent; clock = h .clock; policy = h .policy; logs = set (h .logs) r-log-named (r-log-command .log); poison = h .poison }))) $ owned ! DeviceT.the-row (Is DeviceT.the-row) ((LL.makes DeviceT.the-type DeviceL.the-plain) 𝓤 H A) (record { volatile = h .volatile; persistent = h .persistent; clock = h .clock; policy = h .policy; logs = set (h .logs) r-log-named (r-log-command .log); poison = h .poison }) (mach (record { volatile = h .volatile; persistent = h .persistent; clock = h .clock; policy = h .policy; logs = set (h .logs) r-log-named (r-log-command .log); poison = h .poison }) ∷ []) (put-logs h was r-log-named (r-log-command .log) (LL.owed LogPartsT.the-type LogPartsL.the-laws r-log-command _ i-log-command .1 .1 .0)) $
         move ! (1 ∷ 0 ∷ 6 ∷ 7 ∷ 8 ∷ []) $ closes ! tt DeviceT.the-row (record { volatile = h .volatile; persistent = h .persistent; clock = h .clock; policy = h .policy; logs = set (h .logs) r-log-named (r-log-command .log); poison = h .poison }) (mach (record { volatile = h .volatile; persistent = h .persistent; clock = h .clock; policy = h .policy; logs = set (h .logs) r-log-named (r-log-command .log); poison = h .poison }) ∷ []) b o $
         returns ! (look ! 37 refl) $ forget ! 7 refl $ forget ! 9 refl $ forget ! 11 refl $ forget ! 13 refl $ forget ! 15 refl $ forget ! 17 refl $ forget ! 19 refl $ forget ! 21 refl $ forget ! 23 refl $ forget ! 25 refl $ forget ! 27 refl $ forget ! 29 refl $ forget ! 31 refl $ forget ! 33 refl $ forget ! 35 refl $ forget ! 37 refl $
         move ! (37 ∷ 38 ∷ 35 ∷ 36 ∷ 33 ∷ 34 ∷ 31 ∷ 32 ∷ 29 ∷ 30 ∷ 27 ∷ 28 ∷ 25 ∷ 26 ∷ 23 ∷ 24 ∷ 21 ∷ 22 ∷ 19 ∷ 20 ∷ 17 ∷ 18 ∷ 15 ∷ 16 ∷ 13 ∷ 14 ∷ 11 ∷ 12 ∷ 9 ∷ 10 ∷ 7 ∷ 8 ∷ []) $ free-all ! $
-        keep ! (0 ∷ 1 ∷ 2 ∷ 4 ∷ 3 ∷ 5 ∷ 6 ∷ []) $ by ! (exits (record { code = r-log-command .code; length = r-log-command .length }) (record { volatile = h .volatile; persistent = h .persistent; clock = h .clock; policy = h .policy; logs = set (h .logs) r-log-named (r-log-command .log); poison = h .poison }) (ws-log-command .1 .1 .1 .0) _ (so 𝓤 (log-command-gives h opcode payload time reply valid was r-log-named e-log-named r-log-command (ws-log-command .1 .1 .1 .0) e-log-command)) long-reply (LL.owes DoneT.the-type DoneL.the-laws (record { code = r-log-command .code; length = r-log-command .length }) ((refl, LL.owed LogPartsT.the-type LogPartsL.the-laws r-log-command _ i-log-command .0 .1), ((refl, LL.owed LogPartsT.the-type LogPartsL.the-laws r-log-command _ i-log-command .1 .0 .1), tt)))))))))))))))))))))))))))))))))
+        keep ! (0 ∷ 1 ∷ 2 ∷ 4 ∷ 3 ∷ 5 ∷ 6 ∷ []) $ by ! (exits (record { code = r-log-command .code; vector = 0; length = r-log-command .length }) (record { volatile = h .volatile; persistent = h .persistent; clock = h .clock; policy = h .policy; logs = set (h .logs) r-log-named (r-log-command .log); poison = h .poison }) (ws-log-command .1 .1 .1 .0) _ (so 𝓤 (log-command-gives h opcode payload time reply valid was r-log-named e-log-named r-log-command (ws-log-command .1 .1 .1 .0) e-log-command)) long-reply (LL.owes DoneT.the-type DoneL.the-laws (record { code = r-log-command .code; vector = 0; length = r-log-command .length }) ((refl, LL.owed LogPartsT.the-type LogPartsL.the-laws r-log-command _ i-log-command .0 .1), ((refl, (omega arith)), ((refl, LL.owed LogPartsT.the-type LogPartsL.the-laws r-log-command _ i-log-command .1 .0 .1), tt))))))))))))))))))))))))))))))))))
 
 module _ {M : Type 1} (𝓤 : URA M) (H : Heap 𝓤) (A : Atoms 𝓤) (W : Given 𝓤 H A) (at-mem : Memory → SProp 𝓤) (run : Routine → Fun 𝓤) where
   walks : (C : Calls 𝓤 H) (Λ : Loops 𝓤 H) → FmC 𝓤 H (W .laws) C → Triple 𝓤 (C #g-log-named) (C-log-named 𝓤 H A at-mem run) → Triple 𝓤 (C #g-log-command) (C-log-command 𝓤 H A at-mem run) → Walks 𝓤 H A f.ended stayed (WpFn 𝓤 H C Λ code.function) (f.clauses 𝓤 H A at-mem run)

@@ -1,79 +1,37 @@
--- `host_records::buffer::put_line` meets its contract: each piece follows the one before it, and there is room for all. Assumes nothing.
-use Prim.Native.Nat.{_≤_, _+_}
+-- `host_records::buffer::put_line` meets its contract: the columns, and the line's end after them. Assumes nothing.
+use Prim.Native.Nat.{_<_}
 use native.Mathlib.Omega.{arith}
 use borrow.Author.Needs.{needs}
-use mathlib.Core.List.{[], _∷_}
-use mathlib.Core.Path.{_≡_}
-use lib.ListN.{length, take, length-take}
-use Rattle.protocol.proofs.Laws.{length-column, length-columns, length-bytes-column}
-use Rattle.host_records.proofs.BufferLaws.{buffer-put}
+use lib.ListN.{length}
+use Rattle.host_records.proofs.BufferLaws.{buffer-short, buffer-ends}
 use Rattle.host_records.proofs.buffer.put_line.Statement.{statement}
 use Rattle.host_records.proofs.buffer.put_line.Tie as tie
 
--- where each piece ends
-columned : (c : tie.After-put-columns) → c .put-columns .result ≤ c .before .before .before .before .before .args .used + 44
-columned c =
-    let a = c .before .before .before .before .before .args in
-    omega (arith, c .put-columns .ensures .end, length-columns (a .code ∷ a .n ∷ []))
+put-buffer-requires : tie.Need-put-buffer-requires
+put-buffer-requires c κs = search needs
 
-told : (c : tie.After-put-some) → c .put-some .result ≤ c .before .before .before .before .before .before .before .before .before .args .used + 10287
-told c =
-    let s = c .before .before .before .before .before .before .before .before .before in
-    let taken : length (take (s .args .n) (s .args .buffer .now)) ≡ s .args .n = rw length-take (omega (arith, s .pre .0)) in
-    omega (arith, c .put-some .ensures .end, length-bytes-column (32 ∷ 45 ∷ []) (take (s .args .n) (s .args .buffer .now)), taken, s .pre .0, s .pre .1, columned (c .before .before .before .before))
-
--- how long the output buffer is
-wide : (c : tie.After-put-some) → c .before .before .before .before .before .before .before .before .before .args .used + 20000 ≤ length (c .put-some .last .0)
-wide c = omega (arith, c .put-some .kept .0, c .before .before .before .before .put-columns .kept .0, c .before .before .before .before .before .before .before .before .before .pre .2)
-
-slice-aggregate-put-columns : tie.Need-slice-aggregate-put-columns
-slice-aggregate-put-columns c = search needs
-
-put-columns-requires : tie.Need-put-columns-requires
-put-columns-requires c κs = search needs
-
-put-some-requires : tie.Need-put-some-requires
-put-some-requires c κs =
-    let s = c .before .before .before .before .before .before .before .before in
-    let p = c .before .before .before in
-    (s .pre .0, omega (arith, columned p, p .put-columns .kept .0, s .pre .1, s .pre .2))
-
-kept-requires : tie.Need-kept-requires
-kept-requires c κs = search needs
-
-bit-requires : tie.Need-bit-requires
-bit-requires c κs = search needs
-
-put-number-requires : tie.Need-put-number-requires
-put-number-requires c κs = omega (arith, told (c .before .before .before .before .before), wide (c .before .before .before .before .before))
+-- there is room after the columns
+room-after : (c : tie.After-put-buffer) → c .put-buffer .result < length (c .before .before .before .before .args .out .now)
+room-after c =
+    let s = c .before .before .before .before in
+    omega (arith, buffer-short _ _ _ (s .args .n) _ _ (c .put-buffer .ensures) (s .pre .0), s .pre .1, s .pre .2)
 
 end-line-requires : tie.Need-end-line-requires
-end-line-requires c κs =
-    let put = c .before .before .before .put-number in
-    let some = c .before .before .before .before .before .before .before .before .before in
-    omega (arith, put .ensures .end, length-column (c .before .before .before .before .bit .result), told some, wide some, put .kept .0)
+end-line-requires c κs = omega (arith, room-after (c .before .before .before), c .before .before .before .put-buffer .kept .0)
 
 same-length : tie.Need-same-length
-same-length c = omega (arith, c .before .before .end-line .kept .0, c .before .before .before .before .before .before .put-number .kept .0, c .before .before .before .before .before .before .before .before .before .before .before .before .put-some .kept .0, c .before .before .before .before .before .before .before .before .before .before .before .before .before .before .before .before .put-columns .kept .0)
+same-length c = search needs
 
 returns : tie.Need-returns
 returns c =
-    let s = c .before .before .before .before .before .before .before .before .before .before .before .before .before .before .before .before .before .before .before .before .before in
-    let some = c .before .before .before .before .before .before .before .before .before .before .before .before in
-    let put = c .before .before .before .before .before .before .put-number in
-    buffer-put (s .args .code) (s .args .n) (s .args .byte) (s .args .buffer .now) (c .before .before .before .before .before .before .before .before .before .before .before .before .before .before .before .before .put-columns .ensures) (some .put-some .ensures) (put .ensures) (c .before .before .before .before .before .before .before .bit .ensures) (c .before .before .before .before .before .before .before .before .before .kept .ensures) (c .before .before .end-line .ensures)
-    (omega (arith, put .ensures .end, length-column (c .before .before .before .before .before .before .before .bit .result), told some, wide some, some .put-some .kept .0, c .before .before .before .before .before .before .before .before .before .before .before .before .before .before .before .before .put-columns .kept .0))
+    let a = c .before .before .before .before .before .before .before .before .before .before .args in
+    buffer-ends (a .first) (a .second) (a .code) (a .n) (a .byte) (a .buffer .now) (c .before .before .before .before .before .before .put-buffer .ensures) (c .before .before .end-line .ensures) (room-after (c .before .before .before .before .before .before))
 
 pub put-line-spec : {M : Type 1} → statement M
 put-line-spec =
     tie.close
     (tie.spec
-    slice-aggregate-put-columns
-    put-columns-requires
-    put-some-requires
-    kept-requires
-    bit-requires
-    put-number-requires
+    put-buffer-requires
     end-line-requires
     same-length
     returns)

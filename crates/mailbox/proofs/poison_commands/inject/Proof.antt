@@ -1,6 +1,7 @@
 -- `mailbox::poison_commands::inject` meets its contract: refused by the checks of the line, or what the list's injection makes of it. Assumes nothing.
 use mathlib.Core.Path.{_≡_, sym, _∙_}
-use Prim.Native.Nat.{_<_, _-_, _/_}
+use mathlib.Core.Bool.{Bool}
+use Prim.Native.Nat.{ℕ, _<_, _-_, _/_}
 use native.Mathlib.Omega.{arith}
 use borrow.Author.Needs.{needs}
 use Rattle.poison.specs.State.{capacity, list-of, ValidList}
@@ -12,13 +13,13 @@ use Rattle.mailbox.proofs.ListAnswers.{inject-refusal, inject-done}
 use Rattle.mailbox.proofs.poison_commands.inject.Statement.{statement}
 use Rattle.mailbox.proofs.poison_commands.inject.Tie as tie
 
--- the list at entry
-abbrev list : tie.Start → PoisonList
-list s = list-of (s .args .starts .now) (s .args .lengths .now) (s .args .kinds .now) (s .args .count) (s .args .overflow) (s .args .since)
+-- the list at entry, with any flag and time
+abbrev list : tie.Start → Bool → ℕ → PoisonList
+list s o t = list-of (s .args .starts .now) (s .args .lengths .now) (s .args .kinds .now) (s .args .count) o t
 
 -- it is a valid one
-valid : (s : tie.Start) → ValidList (s .args .lines) (list s)
-valid s = slots-valid (s .pre .0) _ _
+valid : (s : tie.Start) (o : Bool) (t : ℕ) → ValidList (s .args .lines) (list s o t)
+valid s o t = slots-valid (s .pre .0) o t
 
 -- past the checks, the line is one of the device
 abbrev start : tie.Else1 → tie.Start
@@ -38,8 +39,9 @@ check-line-requires c κs = search needs
 
 returns : tie.Need-returns
 returns c =
+    λ o t.
     let s = c .before .before .before .before in
-    inject-refusal _ (list s) _ _ (c .before .before .get .ensures .value) (valid s) _ (c .before .check-line .ensures) (c .if1 .taken)
+    inject-refusal _ (list s o t) _ _ (c .before .before .get .ensures .value) (valid s o t) _ (c .before .check-line .ensures) (c .if1 .taken)
 
 cast-line : tie.Need-cast-line
 cast-line c = let h = inside c in record { fits = omega (arith, h) }
@@ -52,9 +54,10 @@ inject-code-requires c κs = search needs
 
 returns-2 : tie.Need-returns-2
 returns-2 c =
+    λ o t.
     let e = c .before .before .before .before .before in
     let s = start e in
-    inject-done _ (list s) _ _ (e .before .before .get .ensures .value) (valid s) (zero e) _ _ (c .before .inject-in .ensures _ _) (c .inject-code .ensures)
+    inject-done _ (list s o t) _ _ (e .before .before .get .ensures .value) (valid s o t) (zero e) _ _ _ (c .before .inject-in .ensures o t) (c .inject-code .ensures)
 
 pub inject-spec : {M : Type 1} → statement M
 inject-spec =

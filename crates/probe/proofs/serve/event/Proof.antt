@@ -13,6 +13,12 @@ cast-code c = search needs
 bit-requires : tie.Need-bit-requires
 bit-requires c κs = search needs
 
+vector-number-requires : tie.Need-vector-number-requires
+vector-number-requires c κs = search needs
+
+cast-vector : tie.Need-cast-vector
+cast-vector c = search needs
+
 slice-aggregate-put-numbers : tie.Need-slice-aggregate-put-numbers
 slice-aggregate-put-numbers c = search needs
 
@@ -23,7 +29,7 @@ same-length : tie.Need-same-length
 same-length c = search needs
 
 returns : tie.Need-returns
-returns c = event-served (c .before .before .before .before .before .before .before .before .before .before .before .args .bytes .now) (c .before .before .before .before .before .before .before .before .call-event .ensures) (c .before .before .before .before .before .before .bit .ensures) (c .before .before .before .put-numbers .ensures)
+returns c = event-served (c .before .before .before .before .before .before .before .before .before .before .before .before .args .bytes .now) (c .before .before .before .before .before .before .before .before .before .call-event .ensures) (c .before .before .before .before .before .before .before .bit .ensures) (c .before .before .before .before .before .before .vector-number .ensures) (c .before .before .before .put-numbers .ensures)
 
 pub event-spec : {M : Type 1} → statement M
 event-spec =
@@ -32,6 +38,8 @@ event-spec =
     call-event-requires
     cast-code
     bit-requires
+    vector-number-requires
+    cast-vector
     slice-aggregate-put-numbers
     put-numbers-requires
     same-length

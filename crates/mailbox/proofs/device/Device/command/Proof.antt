@@ -1,12 +1,31 @@
 -- `mailbox::device::Device::command` meets its contract: the command over the part that it sees. Assumes nothing.
 use mathlib.Core.Path.{_≡_, sym, _∙_}
+use mathlib.Core.Bool.{true, false}
 use Prim.Native.Nat.{_<_, _-_}
 use native.Mathlib.Omega.{arith}
 use borrow.Author.Needs.{needs}
 use lib.ListN.{length, length-map}
-use Rattle.mailbox.proofs.PartAnswers.{list-parts-answered, log-parts-answered, settings-parts-answered}
+use Rattle.mailbox.specs.ByParts.{of-list, of-injection}
+use Rattle.mailbox.proofs.PartAnswers.{command-vector, list-parts-answered, inject-parts-answered, log-parts-answered, settings-parts-answered}
 use Rattle.mailbox.proofs.device.Device.command.Statement.{statement}
 use Rattle.mailbox.proofs.device.Device.command.Tie as tie
+
+-- where the function began, from each of the places after an `if`
+abbrev start : tie.After-of-list → tie.Start
+start c = c .before .before .before .before
+
+five : (s : tie.Start) → length (s .args .t1 .logs) ≡ 5
+five s = simp length-map at (s .good .0 .1 .1 .1 .1 .1 .1 .0 .1 .0 .1)
+
+-- what the tests answered: which part the opcode sees
+not-list : (c : tie.Else1) → of-list (start (c .before) .args .opcode) ≡ false
+not-list c = sym (c .before .of-list .ensures) ∙ c .if1 .left
+
+injection : (c : tie.Then2) → of-injection (start (c .before .before .before) .args .opcode) ≡ true
+injection c = sym (c .before .of-injection .ensures) ∙ c .if2 .taken
+
+not-injection : (c : tie.Else2) → of-injection (start (c .before .before .before) .args .opcode) ≡ false
+not-injection c = sym (c .before .of-injection .ensures) ∙ c .if2 .left
 
 -- the log that the payload names is one of the five
 named : (c : tie.After-log-named) → c .log-named .result < 5
@@ -16,7 +35,27 @@ of-list-requires : tie.Need-of-list-requires
 of-list-requires c κs = search needs
 
 list-command-requires : tie.Need-list-command-requires
-list-command-requires c κs = let v = c .before .before .before .before .before .before .before .pre in (v .some-unit, v .few-units, v .poison, sym (c .before .before .before .of-list .ensures) ∙ c .before .before .if1 .taken)
+list-command-requires c κs =
+    let t = c .before .before in
+    let v = start (t .before) .pre in
+    (v .some-unit, v .few-units, v .poison, sym (t .before .of-list .ensures) ∙ t .if1 .taken)
+
+of-injection-requires : tie.Need-of-injection-requires
+of-injection-requires c κs = search needs
+
+element-copy-out-log : tie.Need-element-copy-out-log
+element-copy-out-log c = search needs
+
+inject-command-requires : tie.Need-inject-command-requires
+inject-command-requires c κs =
+    let v = start (c .before .before .before .before .before .before .before) .pre in
+    (v .some-unit, v .few-units, v .poison, v .logs .each 0 (omega arith))
+
+element-set-from-held : tie.Need-element-set-from-held
+element-set-from-held c = search needs
+
+numbered-requires : tie.Need-numbered-requires
+numbered-requires c κs = search needs
 
 of-log-requires : tie.Need-of-log-requires
 of-log-requires c κs = search needs
@@ -27,11 +66,13 @@ log-named-requires c κs = search needs
 mul-log : tie.Need-mul-log
 mul-log c = let h = named c in record { fits = omega (arith, h) }
 
-element-copy-out-log : tie.Need-element-copy-out-log
-element-copy-out-log c = named c
+element-copy-out-log-2 : tie.Need-element-copy-out-log-2
+element-copy-out-log-2 c = named c
 
 log-command-requires : tie.Need-log-command-requires
-log-command-requires c κs = (c .before .before .before .before .before .before .before .before .before .before .pre .logs .each _ (named (c .before .before)), sym (c .before .before .before .before .of-log .ensures) ∙ c .before .before .before .if2 .taken)
+log-command-requires c κs =
+    let t = c .before .before .before in
+    (start (t .before .before .before .before .before) .pre .logs .each _ (named (c .before .before)), sym (t .before .of-log .ensures) ∙ t .if3 .taken)
 
 mul-next : tie.Need-mul-next
 mul-next c = let h = named (c .before .before .before .before .before .before) in record { fits = omega (arith, h) }
@@ -40,28 +81,42 @@ element-set-from-next : tie.Need-element-set-from-next
 element-set-from-next c = named (c .before .before .before .before .before .before)
 
 settings-command-requires : tie.Need-settings-command-requires
-settings-command-requires c κs = let v = c .before .before .before .before .before .before .before .before .before .pre in (v .some-unit, v .few-units, sym (c .before .before .before .before .before .of-list .ensures) ∙ c .before .before .before .before .if1 .left, sym (c .before .before .before .of-log .ensures) ∙ c .before .before .if2 .left)
+settings-command-requires c κs =
+    let e = c .before .before in
+    let i = e .before .before in
+    let v = start (i .before .before .before) .pre in
+    (v .some-unit, v .few-units, not-list (i .before .before), not-injection i, sym (e .before .of-log .ensures) ∙ e .if3 .left)
 
 same-length : tie.Need-same-length
 same-length c = search needs
 
 returns : tie.Need-returns
-returns c = list-parts-answered _ (c .before .before .before .before .before .before .before .before .before .before .before .pre) (c .before .before .before .list-command .ensures)
+returns c = list-parts-answered _ (start (c .before .before .before .before .before .before .before) .pre) (c .before .before .before .list-command .ensures)
 
 same-length-2 : tie.Need-same-length-2
 same-length-2 c = search needs
 
 returns-2 : tie.Need-returns-2
 returns-2 c =
-    let s = c .before .before .before .before .before .before .before .before .before .before .before .before .before .before in
-    let five : length (s .args .t1 .logs) ≡ 5 = simp length-map at (s .good .0 .1 .1 .1 .1 .1 .1 .0 .1 .0 .1) in
-    log-parts-answered _ (s .pre) five _ _ (c .before .before .before .before .before .before .log-named .ensures .0) (c .before .before .before .log-command .ensures)
+    let t = c .before .before .before .before .before .before .before .before .before .before in
+    let s = start (t .before .before .before) in
+    command-vector (c .numbered .ensures)
+    (inject-parts-answered _ (s .pre) _ (five s) (injection t) (c .before .before .before .before .before .inject-command .ensures))
 
 same-length-3 : tie.Need-same-length-3
 same-length-3 c = search needs
 
 returns-3 : tie.Need-returns-3
-returns-3 c = settings-parts-answered _ (c .before .before .before .before .before .before .before .before .before .before .before .before .before .before .pre) (c .before .before .before .before .settings-command .ensures)
+returns-3 c =
+    let k = c .before .before .before .before .before .before in
+    let s = start (k .before .before .before .before .before .before) in
+    log-parts-answered _ (s .pre) (five s) _ _ (k .log-named .ensures .0) (c .before .before .before .log-command .ensures)
+
+same-length-4 : tie.Need-same-length-4
+same-length-4 c = search needs
+
+returns-4 : tie.Need-returns-4
+returns-4 c = settings-parts-answered _ (start (c .before .before .before .before .before .before .before .before .before .before .before .before) .pre) (c .before .before .before .before .settings-command .ensures)
 
 pub command-spec : {M : Type 1} → statement M
 command-spec =
@@ -69,10 +124,15 @@ command-spec =
     (tie.spec
     of-list-requires
     list-command-requires
+    of-injection-requires
+    element-copy-out-log
+    inject-command-requires
+    element-set-from-held
+    numbered-requires
     of-log-requires
     log-named-requires
     mul-log
-    element-copy-out-log
+    element-copy-out-log-2
     log-command-requires
     mul-next
     element-set-from-next
@@ -82,4 +142,6 @@ command-spec =
     same-length-2
     returns-2
     same-length-3
-    returns-3)
+    returns-3
+    same-length-4
+    returns-4)
