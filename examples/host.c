@@ -1,6 +1,6 @@
 /*
- * One guest's memory device in a hypervisor: the mailbox registers, the doorbell, the read path, and the incident that Kulduvost is
- * there for, replayed. Exits with 1 if anything is not as expected.
+ * One guest's memory device in a hypervisor: the mailbox registers, the doorbell, the interrupts, the read path, and the incident that
+ * Kulduvost is there for, replayed. Exits with 1 if anything is not as expected.
  *
  *   cc -std=c11 -I OUT/include examples/host.c OUT/lib/libkulduvost.a -o host        (OUT: where tests/library wrote)
  */
@@ -25,6 +25,7 @@ struct guest {
     kulduvost_device device;
     struct mailbox mailbox;
     uint8_t *memory; /* the bytes that the device stands for: the caller's, not the library's */
+    unsigned raised[KULDUVOST_VECTOR_FATAL + 1]; /* how often each vector was raised */
 };
 
 #define DOORBELL 1u
@@ -79,6 +80,21 @@ static bool guest_read(struct guest *guest, uint64_t address, uint8_t line[KULDU
     return true;
 }
 
+/* Raises the interrupt that an answer carries, if any. A hypervisor sends the guest the MSI or MSI-X message of that number; here it is
+ * counted. */
+static void guest_interrupt(struct guest *guest, uint8_t vector) {
+    if (vector != KULDUVOST_VECTOR_NONE) {
+        guest->raised[vector]++;
+    }
+}
+
+/* An event for the guest's log. With eight records held it is counted as overflow, and Success answers not stored. */
+static kulduvost_event_answer guest_event(struct guest *guest, uint8_t log, const uint8_t record[KULDUVOST_EVENT_RECORD_SIZE]) {
+    kulduvost_event_answer told = kulduvost_event_report(&guest->device, now(), log, record, KULDUVOST_EVENT_RECORD_SIZE);
+    guest_interrupt(guest, told.vector);
+    return told;
+}
+
 /* The hardware told of damage. Nothing is lost where lines are dropped: from then on no line that the list does not cover is Clean. */
 static kulduvost_media_answer guest_damaged(struct guest *guest, uint64_t address, uint32_t lines, uint8_t type) {
     return kulduvost_media_report(&guest->device, now(), address, lines, type);
@@ -91,7 +107,7 @@ static kulduvost_command_answer mailbox_run(struct guest *guest) {
     size_t length = mailbox->command >> 16 & 0x1fffff;
     uint8_t request[KULDUVOST_MAILBOX_SIZE];
     if (length > sizeof request) { /* more than there is: a length must be true, so the device's own answer is given here */
-        return (kulduvost_command_answer){KULDUVOST_INVALID_PAYLOAD_LENGTH, 0};
+        return (kulduvost_command_answer){.code = KULDUVOST_INVALID_PAYLOAD_LENGTH, .vector = KULDUVOST_VECTOR_NONE, .length = 0};
     }
     memcpy(request, mailbox->payload, length);
     kulduvost_command_answer done =
@@ -104,12 +120,14 @@ static kulduvost_command_answer mailbox_run(struct guest *guest) {
     return done;
 }
 
-/* The guest rang the doorbell: the command is run, its code and the reply's length are shown, and the doorbell is clear again. */
+/* The guest rang the doorbell: the command is run, its code and the reply's length are shown, and the doorbell is clear again. Then the
+ * command's interrupt is raised: a guest that takes it at once finds the command done. */
 static void mailbox_doorbell(struct guest *guest) {
     kulduvost_command_answer done = mailbox_run(guest);
     guest->mailbox.status = (uint64_t)done.code << 32;
     guest->mailbox.command = (guest->mailbox.command & 0xffff) | (uint64_t)done.length << 16;
     guest->mailbox.control &= ~DOORBELL;
+    guest_interrupt(guest, done.vector);
 }
 
 /* ---- The guest's side of the mailbox, played here */
@@ -126,6 +144,34 @@ static uint16_t guest_clears(struct guest *guest, uint64_t address, uint8_t fill
     store64(payload, address);
     memset(payload + 8, fill, KULDUVOST_LINE_SIZE);
     return guest_sends(guest, KULDUVOST_CLEAR_POISON, payload, sizeof payload);
+}
+
+static uint16_t guest_injects(struct guest *guest, uint64_t address) {
+    uint8_t payload[8];
+    store64(payload, address);
+    return guest_sends(guest, KULDUVOST_INJECT_POISON, payload, sizeof payload);
+}
+
+/* Log Info alone interrupts. */
+static uint16_t guest_enables_info(struct guest *guest) {
+    const uint8_t payload[KULDUVOST_EVENT_LOGS] = {[KULDUVOST_LOG_INFO] = 1};
+    return guest_sends(guest, KULDUVOST_SET_EVENT_INTERRUPT_POLICY, payload, sizeof payload);
+}
+
+/* What a guest does at an interrupt: reads the records of a log, and clears them by their handles, which are bytes 20 and 21 of a record.
+ * The records read, oldest first; their number is given back, 0 where a command is refused. */
+static size_t guest_empties_log(struct guest *guest, uint8_t log, uint8_t records[][KULDUVOST_EVENT_RECORD_SIZE]) {
+    uint8_t clear[6 + 2 * KULDUVOST_EVENT_LOG_RECORDS] = {log};
+    if (guest_sends(guest, KULDUVOST_GET_EVENT_RECORDS, &log, 1) != KULDUVOST_SUCCESS) {
+        return 0;
+    }
+    size_t count = guest->mailbox.payload[20]; /* of at most eight: the second byte of the count is 0 */
+    memcpy(records, guest->mailbox.payload + 32, count * KULDUVOST_EVENT_RECORD_SIZE);
+    clear[2] = (uint8_t)count;
+    for (size_t i = 0; i < count; i++) {
+        memcpy(clear + 6 + 2 * i, records[i] + 20, 2);
+    }
+    return guest_sends(guest, KULDUVOST_CLEAR_EVENT_RECORDS, clear, 6 + 2 * count) == KULDUVOST_SUCCESS ? count : 0;
 }
 
 /* ---- The example */
@@ -148,6 +194,29 @@ static void one_line_damaged_and_cleared(struct guest *guest) {
     expect(guest_read(guest, address_of(7), line) && line[0] == 0x5a && line[63] == 0x5a, "the read of line 7 is served with that data");
     expect(guest_clears(guest, 1, 0) == KULDUVOST_INVALID_INPUT, "a clear of an unaligned address is refused");
     expect(!guest_read(guest, address_of(KULDUVOST_UNIT_LINES), line), "a read past the device blocks");
+}
+
+/* The guest injects damage and is told of it by an interrupt; a log that holds a record already raises no other. */
+static void injection_and_its_interrupt(struct guest *guest) {
+    static const uint8_t event[KULDUVOST_EVENT_RECORD_SIZE];
+    uint8_t records[KULDUVOST_EVENT_LOG_RECORDS][KULDUVOST_EVENT_RECORD_SIZE] = {{0}}, line[KULDUVOST_LINE_SIZE];
+    const unsigned *info = &guest->raised[KULDUVOST_VECTOR_INFO];
+    expect(guest_enables_info(guest) == KULDUVOST_SUCCESS && *info == 0, "the guest enables the interrupts of log Info: none is raised yet");
+    expect(guest_injects(guest, address_of(9)) == KULDUVOST_SUCCESS && *info == 1, "the guest injects damage of line 9: vector 2 is raised");
+    expect(!guest_read(guest, address_of(9), line), "the read of line 9 blocks");
+    expect(guest_injects(guest, address_of(9)) == KULDUVOST_SUCCESS && *info == 1, "line 9 again, covered by now: no event, no interrupt");
+    expect(guest_injects(guest, address_of(11)) == KULDUVOST_SUCCESS && *info == 1, "line 11: its event finds the log not empty, no interrupt");
+    expect(guest_empties_log(guest, KULDUVOST_LOG_INFO, records) == 2, "the guest reads two records and clears them");
+    expect(load64(records[0] + 48) == address_of(9) && load64(records[1] + 48) == address_of(11), "they name lines 9 and 11");
+    expect(guest_event(guest, KULDUVOST_LOG_INFO, event).stored && *info == 2, "an event of the host's for the emptied log: vector 2 again");
+    expect(guest_event(guest, KULDUVOST_LOG_FATAL, event).stored && guest->raised[KULDUVOST_VECTOR_FATAL] == 0,
+           "an event for log Fatal, which is not enabled: no interrupt");
+    expect(guest_empties_log(guest, KULDUVOST_LOG_INFO, records) == 1 && guest_empties_log(guest, KULDUVOST_LOG_FATAL, records) == 1 &&
+               kulduvost_event_status(&guest->device).waiting == 0,
+           "the guest reads and clears both: no log is waiting");
+    expect(guest_clears(guest, address_of(9), 0) == KULDUVOST_SUCCESS && guest_clears(guest, address_of(11), 0) == KULDUVOST_SUCCESS &&
+               *info == 2,
+           "the guest clears lines 9 and 11: a clear raises no interrupt");
 }
 
 /* In spring a poison list was full; one more report of damage was dropped, and the line read as clean. */
@@ -173,6 +242,7 @@ int main(void) {
         return 1;
     }
     one_line_damaged_and_cleared(guest);
+    injection_and_its_interrupt(guest);
     incident(guest);
     guest_free(guest);
     return all_as_expected ? 0 : 1;

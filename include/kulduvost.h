@@ -1,6 +1,7 @@
 /*
  * Kulduvost: a CXL Type 3 mailbox device (poison list, event logs, twelve commands) behind a pointer. C11 and C++11, x86-64 System V.
- * Link with libkulduvost.a; `tests/library OUT` writes both. The rules are those of the project's document 01; its words stand below.
+ * Link with libkulduvost.a; `tests/library OUT` writes both. The rules are those of the project's documents 01 and 02 (the requests that
+ * have landed); their words stand below.
  *
  * What the caller owes, and nothing checks:
  *  - A device lies in memory of KULDUVOST_DEVICE_SIZE bytes, aligned to KULDUVOST_DEVICE_ALIGN, that is all zero before kulduvost_make
@@ -16,6 +17,8 @@
  *    there. Refusals are listed in their order: the first that applies is given.
  *  - A damaged record blocks, never permits: serve a read only where kulduvost_line_test gives code KULDUVOST_SUCCESS with answer
  *    KULDUVOST_CLEAN. Any other pair blocks.
+ *  - The answer of a call that stores an event says which interrupt to raise (enum kulduvost_vector). The library raises none itself and
+ *    says it once: the caller raises it after the call.
  *
  * `time` is the caller's clock in nanoseconds. It may stand still or go back; no answer about a line depends on it.
  * Time and stack that a call takes are measured (docs/MEASURES.md), not promised: look there before you call on a small stack.
@@ -76,7 +79,9 @@ enum kulduvost_opcode {
     KULDUVOST_CLEAR_EVENT_RECORDS = 0x0101,
     /* No payload. Reply: a setting of 1 byte for each of the five logs. */
     KULDUVOST_GET_EVENT_INTERRUPT_POLICY = 0x0102,
-    /* a byte for each of logs 0 to 3, or 0 to 4. No reply. */
+    /* a byte for each of logs 0 to 3, or 0 to 4. The interrupts of a log are enabled exactly if the low two bits of its byte are 1,
+     * otherwise disabled; four bytes leave log 4 as it was. All start disabled. A log that is enabled while it holds records raises
+     * nothing for them: its next vector comes when it has been emptied and a record is stored. No reply. */
     KULDUVOST_SET_EVENT_INTERRUPT_POLICY = 0x0103,
     /* No payload. Reply: the device time, 8. */
     KULDUVOST_GET_TIMESTAMP = 0x0300,
@@ -91,7 +96,10 @@ enum kulduvost_opcode {
     KULDUVOST_IDENTIFY = 0x4000,
     /* address 8, lines 8. Unaligned: 0002h; end past the device: 000Fh. Reply: 32 bytes, then 16 for each of up to 126 records. */
     KULDUVOST_GET_POISON_LIST = 0x4300,
-    /* address 8. Unaligned: 0002h; outside: 000Fh; line not covered and 256 entries held: 0010h. No reply. */
+    /* address 8. Unaligned: 0002h; outside: 000Fh; line not covered and 256 entries held: 0010h. No reply. An injection that adds an entry
+     * also reports an event to log 0: 128 zero bytes with length 128 at byte 16 and the address at bytes 48 to 55, then handle and device
+     * time as in every event report; the answer carries the vector of this report. If log 0 is full the event is counted as overflow and
+     * the injection stands, with Success and no vector. A line that is covered already is answered Success and reports no event. */
     KULDUVOST_INJECT_POISON = 0x4301,
     /* address 8, data 64. Unaligned: 0002h; outside: 000Fh. No reply. After Success the caller writes payload bytes 8 to 71 to the line. */
     KULDUVOST_CLEAR_POISON = 0x4302
@@ -105,6 +113,18 @@ enum kulduvost_log {
     KULDUVOST_LOG_FATAL = 3,
     KULDUVOST_LOG_DYNAMIC_CAPACITY = 4,
     KULDUVOST_LOG_NONE = 5 /* event status: no log is waiting */
+};
+
+/* ---- Interrupt vectors: the message number (MSI or MSI-X) of the device that an answer tells the caller to raise. It is the log's vector
+ * if a record was stored by this call, the log's interrupts are enabled (KULDUVOST_SET_EVENT_INTERRUPT_POLICY) and the log went from empty
+ * to one record; otherwise none. So a guest that empties a log at its interrupt is told of the next record. */
+enum kulduvost_vector {
+    KULDUVOST_VECTOR_NONE = 0, /* raise nothing */
+    KULDUVOST_VECTOR_INFO = 2,
+    KULDUVOST_VECTOR_WARNING = 3,
+    KULDUVOST_VECTOR_FAILURE = 4,
+    KULDUVOST_VECTOR_FATAL = 5,
+    KULDUVOST_VECTOR_DYNAMIC_CAPACITY = 2 /* log 4 uses vector 2, as log 0 does: look at both logs */
 };
 
 /* ---- Answers of the line test */
@@ -122,12 +142,14 @@ typedef struct kulduvost_device {
 /* ---- What the calls answer */
 typedef struct kulduvost_command_answer {
     uint16_t code;
-    size_t length; /* bytes of the reply; 0 where refused */
+    uint8_t vector; /* to raise; KULDUVOST_VECTOR_NONE where refused and for every command but Inject Poison */
+    size_t length;  /* bytes of the reply; 0 where refused */
 } kulduvost_command_answer;
 
 typedef struct kulduvost_event_answer {
     uint16_t code;
-    bool stored; /* false where refused */
+    bool stored;    /* false where refused */
+    uint8_t vector; /* to raise; KULDUVOST_VECTOR_NONE where refused or not stored */
 } kulduvost_event_answer;
 
 typedef struct kulduvost_media_answer {
@@ -157,9 +179,10 @@ typedef struct kulduvost_event_status_answer {
 uint16_t kulduvost_make(kulduvost_device *device, uint16_t volatile_units, uint16_t persistent_units);
 
 /*
- * A command of the mailbox. On Success of length n the first n bytes of the reply buffer are written, the others stay. Refused: reply
- * room under 2,048 bytes, 0100h; payload over 2,048 bytes, 0016h; opcode not one of the twelve, 0003h; payload length not the command's,
- * 0016h; then the command's own checks, as listed at its opcode.
+ * A command of the mailbox. On Success of length n the first n bytes of the reply buffer are written, the others stay. The vector to raise
+ * is that of the event that an Inject Poison reports, none for the other commands. Refused: reply room under 2,048 bytes, 0100h; payload
+ * over 2,048 bytes, 0016h; opcode not one of the twelve, 0003h; payload length not the command's, 0016h; then the command's own checks, as
+ * listed at its opcode.
  */
 kulduvost_command_answer kulduvost_command(kulduvost_device *device, uint16_t opcode, const uint8_t *payload, size_t payload_length,
                                            uint64_t time, uint8_t *reply, size_t reply_room);
@@ -167,7 +190,8 @@ kulduvost_command_answer kulduvost_command(kulduvost_device *device, uint16_t op
 /*
  * Event report. Below eight held, the record is stored last in the log, with bytes 20 and 21 set to the log's next handle and bytes 24
  * to 31 to the device time. With eight held nothing is stored: the overflow count grows, staying at 65,535, and Success answers not
- * stored. Refused: record not 128 bytes, 0016h; log above 4, 0002h.
+ * stored. The vector to raise is the log's if its interrupts are enabled and the log was empty before, otherwise none. Refused: record not
+ * 128 bytes, 0016h; log above 4, 0002h.
  */
 kulduvost_event_answer kulduvost_event_report(kulduvost_device *device, uint64_t time, uint8_t log, const uint8_t *record,
                                               size_t record_length);
@@ -200,10 +224,12 @@ KULDUVOST_ASSERT(sizeof(kulduvost_device) == 7648);
 KULDUVOST_ASSERT(KULDUVOST_ALIGN_OF(kulduvost_device) == 8);
 KULDUVOST_ASSERT(sizeof(kulduvost_command_answer) == 16);
 KULDUVOST_ASSERT(offsetof(kulduvost_command_answer, code) == 0);
+KULDUVOST_ASSERT(offsetof(kulduvost_command_answer, vector) == 2);
 KULDUVOST_ASSERT(offsetof(kulduvost_command_answer, length) == 8);
 KULDUVOST_ASSERT(sizeof(kulduvost_event_answer) == 4);
 KULDUVOST_ASSERT(offsetof(kulduvost_event_answer, code) == 0);
 KULDUVOST_ASSERT(offsetof(kulduvost_event_answer, stored) == 2);
+KULDUVOST_ASSERT(offsetof(kulduvost_event_answer, vector) == 3);
 KULDUVOST_ASSERT(sizeof(kulduvost_media_answer) == 12);
 KULDUVOST_ASSERT(offsetof(kulduvost_media_answer, code) == 0);
 KULDUVOST_ASSERT(offsetof(kulduvost_media_answer, stored) == 4);

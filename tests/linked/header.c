@@ -32,9 +32,11 @@ static void calls(kulduvost_device *device) {
     uint8_t record[KULDUVOST_EVENT_RECORD_SIZE] = {0};
     expect(kulduvost_make(device, 1, 0) == KULDUVOST_SUCCESS, "make");
     kulduvost_command_answer done = kulduvost_command(device, KULDUVOST_IDENTIFY, record, 0, 0, bytes, sizeof bytes);
-    expect(done.code == KULDUVOST_SUCCESS && done.length == 69 && memcmp(bytes, "BWFW VERSION 0", 15) == 0, "command");
+    expect(done.code == KULDUVOST_SUCCESS && done.vector == KULDUVOST_VECTOR_NONE && done.length == 69 &&
+               memcmp(bytes, "BWFW VERSION 0", 15) == 0,
+           "command");
     kulduvost_event_answer event = kulduvost_event_report(device, 0, KULDUVOST_LOG_FATAL, record, sizeof record);
-    expect(event.code == KULDUVOST_SUCCESS && event.stored, "event report");
+    expect(event.code == KULDUVOST_SUCCESS && event.stored && event.vector == KULDUVOST_VECTOR_NONE, "event report");
     kulduvost_media_answer media = kulduvost_media_report(device, 0, 5 * KULDUVOST_LINE_SIZE, 3, 2);
     expect(media.code == KULDUVOST_SUCCESS && media.stored == 3 && media.dropped == 0, "media report");
     kulduvost_line_answer line = kulduvost_line_test(device, 6 * KULDUVOST_LINE_SIZE);
@@ -93,6 +95,51 @@ static void event_logs(kulduvost_device *device) {
     expect(full.code == KULDUVOST_SUCCESS && !full.stored, "a full log");
 }
 
+/* ---- The vectors that the header states (documents 01, "Event logs", and 02, W-204) */
+static uint16_t enable_all(kulduvost_device *device) {
+    static uint8_t reply[KULDUVOST_MAILBOX_SIZE];
+    const uint8_t policy[KULDUVOST_EVENT_LOGS] = {1, 1, 1, 1, 1};
+    kulduvost_command_answer done =
+        kulduvost_command(device, KULDUVOST_SET_EVENT_INTERRUPT_POLICY, policy, sizeof policy, 0, reply, sizeof reply);
+    expect(done.vector == KULDUVOST_VECTOR_NONE, "no vector for enabling");
+    return done.code;
+}
+
+static bool raises(kulduvost_device *device, uint8_t log, uint8_t vector) {
+    const uint8_t record[KULDUVOST_EVENT_RECORD_SIZE] = {0};
+    kulduvost_event_answer told = kulduvost_event_report(device, 0, log, record, sizeof record);
+    return told.code == KULDUVOST_SUCCESS && told.stored && told.vector == vector;
+}
+
+static bool injection_raises(kulduvost_device *device, uint64_t line, uint8_t vector) {
+    static uint8_t reply[KULDUVOST_MAILBOX_SIZE];
+    uint8_t payload[8] = {(uint8_t)(line * KULDUVOST_LINE_SIZE)};
+    kulduvost_command_answer done = kulduvost_command(device, KULDUVOST_INJECT_POISON, payload, sizeof payload, 0, reply, sizeof reply);
+    return done.code == KULDUVOST_SUCCESS && done.vector == vector && done.length == 0;
+}
+
+static void vectors(kulduvost_device *device) {
+    static const uint8_t of_log[KULDUVOST_EVENT_LOGS] = {KULDUVOST_VECTOR_INFO, KULDUVOST_VECTOR_WARNING, KULDUVOST_VECTOR_FAILURE,
+                                                         KULDUVOST_VECTOR_FATAL, KULDUVOST_VECTOR_DYNAMIC_CAPACITY};
+    made(device, 1, 0);
+    for (uint8_t log = 0; log < KULDUVOST_EVENT_LOGS; log++) {
+        expect(raises(device, log, KULDUVOST_VECTOR_NONE), "no vector of a log that is not enabled");
+    }
+    made(device, 1, 0);
+    expect(enable_all(device) == KULDUVOST_SUCCESS, "all logs are enabled");
+    for (uint8_t log = 0; log < KULDUVOST_EVENT_LOGS; log++) {
+        expect(raises(device, log, of_log[log]), "the vector of an enabled log that was empty");
+        expect(raises(device, log, KULDUVOST_VECTOR_NONE), "no vector of a log that was not empty");
+    }
+    made(device, 1, 0);
+    expect(injection_raises(device, 1, KULDUVOST_VECTOR_NONE), "an injection, log Info not enabled");
+    expect(kulduvost_event_status(device).bits == 1 << KULDUVOST_LOG_INFO, "an injection leaves an event in log Info");
+    made(device, 1, 0);
+    expect(enable_all(device) == KULDUVOST_SUCCESS, "all logs are enabled again");
+    expect(injection_raises(device, 1, KULDUVOST_VECTOR_INFO), "an injection, log Info enabled and empty");
+    expect(injection_raises(device, 2, KULDUVOST_VECTOR_NONE), "an injection, log Info not empty");
+}
+
 static void poison_entries(kulduvost_device *device) {
     static uint8_t payload[8], reply[KULDUVOST_MAILBOX_SIZE];
     uint32_t stored = 0;
@@ -121,6 +168,7 @@ int main(void) {
         units_and_lines(&heap[0]);
         mailbox(&heap[0]);
         event_logs(&heap[0]);
+        vectors(&heap[0]);
         poison_entries(&heap[0]);
     }
     free(heap);

@@ -135,10 +135,17 @@ static void get_poison_list(void) {
     command(KULDUVOST_GET_POISON_LIST, 16);
 }
 
-/* of a line between two entries, so that the list is again as it was */
-static void inject_and_clear(void) {
-    put(payload, random_between(), 8);
+static void inject(uint64_t address) {
+    put(payload, address, 8);
     command(KULDUVOST_INJECT_POISON, 8);
+}
+static void inject_covered(void) { inject(random_entry()); }
+static void inject_uncovered(void) { inject(random_between()); }
+static void inject_info_empty(void) { inject(random_between()); } /* `prepare` leaves log Info empty for it */
+
+/* of a line between two entries, so that the list is again as it was; its event is counted as overflow, log Info being full */
+static void inject_and_clear(void) {
+    inject_uncovered();
     command(KULDUVOST_CLEAR_POISON, 72);
 }
 
@@ -163,7 +170,8 @@ static void media_covered(void) { media_report(random_entry()); }
 static void media_uncovered(void) { media_report(random_between()); }
 static void make(void) { sink = kulduvost_make(device, 1, 0); }
 
-/* ---- The kinds: a call, the entries held before it, and how many calls can be made before the device must be put back */
+/* ---- The kinds: a call, the entries held before it, and how many calls can be made before the device must be put back. Log Info is full
+ * before a call where the kind does not say that it is empty. */
 enum { MANY = 4096, EMPTY = UINT16_MAX /* entries: no device yet, all zero */ };
 
 static const struct kind {
@@ -194,11 +202,17 @@ static const struct kind {
     {"Get Log, all of it", 255, MANY, get_log},
     {"unknown opcode", 255, MANY, unknown_opcode},
     {"Get Poison List, 126 records", 126, MANY, get_poison_list},
+    {"Inject Poison of a new line, log Info empty, 0 entries", 0, 1, inject_info_empty},
+    {"Inject Poison of a new line, log Info empty, 255 entries", 255, 1, inject_info_empty},
+    {"Inject Poison of a new line, log Info full, 0 entries", 0, 1, inject_uncovered},
+    {"Inject Poison of a new line, log Info full, 255 entries", 255, 1, inject_uncovered},
+    {"Inject Poison of a covered line, 256 entries", 256, MANY, inject_covered},
     {"Inject and Clear Poison (two calls), 0 entries", 0, MANY, inject_and_clear},
     {"Inject and Clear Poison (two calls), 255 entries", 255, MANY, inject_and_clear},
     {"Get Event Records, 8 held", 255, MANY, get_event_records},
     {"Clear Event Records, the oldest of 8", 255, 1, clear_event_records},
     {"event report to a full log", 255, MANY, event_full},
+    {"event report to an empty log", 255, 1, event_room},
     {"event report to a log with room", 255, KULDUVOST_EVENT_LOG_RECORDS, event_room},
     {"media report of a covered line, 256 entries", 256, MANY, media_covered},
     {"media report of a new line, 0 entries", 0, 1, media_uncovered},
@@ -222,15 +236,18 @@ static bool answers_agree(void) {
     return true;
 }
 
-/* The entries; eight records in log Info, the first with handle 1; none in the other logs. */
+/* The entries; the interrupts of all logs enabled; eight records in log Info, the first with handle 1, or none; none in the other logs. */
 static void prepare(const struct kind *kind) {
+    int records = kind->call == inject_info_empty ? 0 : KULDUVOST_EVENT_LOG_RECORDS;
     memset(device, 0, sizeof *device);
     if (kind->entries != EMPTY) {
         kulduvost_make(device, 1, 0);
         for (uint32_t i = 0; i < kind->entries; i++) {
             media_report(i * GAP);
         }
-        for (int i = 0; i < KULDUVOST_EVENT_LOG_RECORDS; i++) {
+        memset(payload, 1, KULDUVOST_EVENT_LOGS);
+        set_policy();
+        for (int i = 0; i < records; i++) {
             event_report(KULDUVOST_LOG_INFO);
         }
     }

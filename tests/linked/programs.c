@@ -112,7 +112,8 @@ static bool all_are(const uint8_t *bytes, size_t length, uint8_t fill) {
     return true;
 }
 
-/* bench: the length and, if there are any, the bytes. probe: the length, the bytes or `-`, and whether the others are still the fill. */
+/* bench: the length and, if there are any, the bytes. probe: the length, the bytes or `-`, whether the others are still the fill, and the
+ * vector (document 10, W-204). */
 static void put_reply(const struct tested *tested, kulduvost_command_answer done, struct lent reply, uint8_t fill) {
     if (done.length > reply.length) {
         stop("a reply is longer than its buffer");
@@ -129,7 +130,7 @@ static void put_reply(const struct tested *tested, kulduvost_command_answer done
     } else {
         fputs(done.length > 0 ? " " : " -", stdout);
         put_hex(reply.bytes, done.length);
-        printf(" %d\n", kept);
+        printf(" %d %u\n", kept, done.vector);
     }
 }
 
@@ -178,7 +179,11 @@ static void serve_event(struct tested *tested, const uint8_t *record, size_t siz
     after_call(tested, told.code != KULDUVOST_SUCCESS);
     take_back(bytes, bytes_at);
     if (!only_code(tested, "EV", told.code)) {
-        printf("EV %u %d\n", told.code, told.stored);
+        printf("EV %u %d", told.code, told.stored);
+        if (tested->format == &probe) {
+            printf(" %u", told.vector);
+        }
+        putchar('\n');
     }
 }
 

@@ -68,6 +68,7 @@ static const uint8_t record[KULDUVOST_EVENT_RECORD_SIZE];
 
 struct answer {
     uint16_t code;
+    uint8_t vector;
     uint64_t values[3]; /* the other fields of the answer, in their order */
 };
 static struct answer told;
@@ -87,12 +88,19 @@ struct row {
     uint8_t log;        /* of an event report */
     uint32_t long_by;   /* lines that each entry has beyond its first */
     bool flag_before;   /* the overflow flag is set before */
+    int info_room;      /* records that log Info has room for before */
+    bool disabled;      /* the interrupts of the logs are disabled before; otherwise enabled */
     uint16_t code;      /* the answer expected */
+    uint8_t vector;
     uint64_t values[3];
     int more_entries, more_lines, more_records; /* held after than before */
+    int more_overflow;  /* counted after than before, all logs together */
     bool flag_set;      /* the call sets the overflow flag */
+    const uint8_t *event; /* the record that log Info holds last after it; null: not looked at */
 };
 enum { NONE = -1 };
+/* The caller's time at which the device time was set, what it was set to, the caller's time of every call, and the device time then. */
+enum { SET_AT = 400, SET_TO = 70000, TIME = 1000, DEVICE_TIME = SET_TO + (TIME - SET_AT) };
 #define AS_HELD UINT64_MAX /* expected: the number of lines held */
 
 #define CALL(name, type, called, ...) \
@@ -101,16 +109,18 @@ enum { NONE = -1 };
         type a = called; \
         told = (struct answer){__VA_ARGS__}; \
     }
-CALL(make, uint16_t, kulduvost_make(&device, now->units, 0), a, {0})
+CALL(make, uint16_t, kulduvost_make(&device, now->units, 0), .code = a)
 CALL(command, kulduvost_command_answer,
-     kulduvost_command(&device, now->opcode, now->payload, now->length, 1000, reply, sizeof reply - now->missing), a.code, {a.length})
-CALL(event_report, kulduvost_event_answer, kulduvost_event_report(&device, 1000, now->log, record, now->length), a.code, {a.stored})
-CALL(media_report, kulduvost_media_answer, kulduvost_media_report(&device, 1000, now->address, now->lines, now->type), a.code,
-     {a.stored, a.dropped})
-CALL(line_test, kulduvost_line_answer, kulduvost_line_test(&device, now->address), a.code, {a.answer, a.type})
-CALL(event_status, kulduvost_event_status_answer, kulduvost_event_status(&device), 0, {a.bits, a.waiting, a.highest})
-CALL(damage_total, uint64_t, kulduvost_damage_total(&device), 0, {a})
-CALL(device_size, size_t, kulduvost_device_size(), 0, {a})
+     kulduvost_command(&device, now->opcode, now->payload, now->length, TIME, reply, sizeof reply - now->missing), a.code, a.vector,
+     {a.length})
+CALL(event_report, kulduvost_event_answer, kulduvost_event_report(&device, TIME, now->log, record, now->length), a.code, a.vector,
+     {a.stored})
+CALL(media_report, kulduvost_media_answer, kulduvost_media_report(&device, TIME, now->address, now->lines, now->type), .code = a.code,
+     .values = {a.stored, a.dropped})
+CALL(line_test, kulduvost_line_answer, kulduvost_line_test(&device, now->address), .code = a.code, .values = {a.answer, a.type})
+CALL(event_status, kulduvost_event_status_answer, kulduvost_event_status(&device), .values = {a.bits, a.waiting, a.highest})
+CALL(damage_total, uint64_t, kulduvost_damage_total(&device), .values = {a})
+CALL(device_size, size_t, kulduvost_device_size(), .values = {a})
 
 /* ---- Addresses and payloads */
 #define LINE ((uint64_t)KULDUVOST_LINE_SIZE)
@@ -120,7 +130,8 @@ CALL(device_size, size_t, kulduvost_device_size(), 0, {a})
 #define FREE (ENTRY + GAP / 2)                    /* a line that no entry covers */
 #define BYTES(n) (n) & 255, (n) >> 8 & 255, (n) >> 16 & 255, (n) >> 24 & 255, 0, 0, 0, 0
 
-static const uint8_t none[1], too_long[KULDUVOST_MAILBOX_SIZE + 1], policy[5], timestamp[8];
+static const uint8_t none[1], too_long[KULDUVOST_MAILBOX_SIZE + 1], policy[5], timestamp[8] = {BYTES(SET_TO)};
+static const uint8_t enabling[KULDUVOST_EVENT_LOGS] = {1, 1, 1, 1, 1};
 static const uint8_t new_line[72] = {BYTES(FREE)}, first_line[72] = {BYTES(ENTRY)}, second_line[72] = {BYTES(ENTRY + LINE)};
 static const uint8_t third_line[72] = {BYTES(ENTRY + 2 * LINE)}, unaligned[72] = {BYTES(ENTRY + 1)}, outside[72] = {BYTES(END)};
 static const uint8_t all_lines[16] = {BYTES(0), BYTES(END / LINE)}, past_end[16] = {BYTES(LINE), BYTES(END / LINE)};
@@ -133,12 +144,21 @@ static const uint8_t clear_second[8] = {KULDUVOST_LOG_INFO, 0, 1, 0, 0, 0, 2};
 #define EFFECTS 0x0d, 0xa9, 0xc0, 0xb5, 0xbf, 0x41, 0x4b, 0x78, 0x8f, 0x79, 0x96, 0xb1, 0x62, 0x3b, 0x3f, 0x17
 static const uint8_t whole_log[24] = {EFFECTS, 0, 0, 0, 0, 48}, log_past[24] = {EFFECTS, 1, 0, 0, 0, 48}, other_log[24] = {0};
 
+/* The event that an injection reports (document 02, W-204): "128 zero bytes with length 128 at byte 16, the address at bytes 48 to 55, then
+ * handle and time as always". */
+#define INJECTED(handle) {[16] = 128, [20] = handle, [24] = BYTES(DEVICE_TIME), [48] = BYTES(FREE)}
+static const uint8_t first_event[KULDUVOST_EVENT_RECORD_SIZE] = INJECTED(1), second_event[KULDUVOST_EVENT_RECORD_SIZE] = INJECTED(2);
+/* and the one of `record`, with which `prepare` filled log Info */
+static const uint8_t eighth_event[KULDUVOST_EVENT_RECORD_SIZE] = {[20] = 8, [24] = BYTES(DEVICE_TIME)};
+
 /* ---- The kinds of calls */
 #define MAKE(n) .call = make, .units = n
 #define ASK(name, bytes, size) .call = command, .opcode = KULDUVOST_##name, .payload = bytes, .length = size
 #define EVENT(to, size) .call = event_report, .log = KULDUVOST_##to, .length = size
 #define MEDIA(at, count, kind) .call = media_report, .address = at, .lines = count, .type = kind
 #define TEST(at) .call = line_test, .address = at
+#define RAISES(log) .vector = KULDUVOST_VECTOR_##log
+#define ONE_LINE_MORE .more_entries = 1, .more_lines = 1
 #define REFUSED(why) .code = KULDUVOST_##why
 #define BAD_LENGTH REFUSED(INVALID_PAYLOAD_LENGTH)
 #define BAD_INPUT REFUSED(INVALID_INPUT)
@@ -154,7 +174,8 @@ static const struct row rows[] = {
     {"Clear Event Records, none of an empty log", 0, 256, ASK(CLEAR_EVENT_RECORDS, clear_none, 6)},
     {"Clear Event Records, the oldest of 8", 0, 256, ASK(CLEAR_EVENT_RECORDS, clear_oldest, 8), .more_records = -1},
     {"Clear Event Records, all 8 by their handles", 0, 256, ASK(CLEAR_EVENT_RECORDS, clear_eight, 22), .more_records = -8},
-    {"Clear Event Records, Clear All of 8", 0, 256, ASK(CLEAR_EVENT_RECORDS, clear_all, 6), .more_records = -8},
+    {"Clear Event Records, Clear All of 8", 0, 256, ASK(CLEAR_EVENT_RECORDS, clear_all, 6), .more_records = -8,
+     .more_overflow = -1},
     {"Clear Event Records, refused: length", 0, 256, ASK(CLEAR_EVENT_RECORDS, clear_oldest, 7), BAD_LENGTH},
     {"Clear Event Records, refused: log", 0, 256, ASK(CLEAR_EVENT_RECORDS, log_five, 6), BAD_INPUT},
     {"Clear Event Records, refused: Clear All", 0, 256, ASK(CLEAR_EVENT_RECORDS, clear_all_early, 6), BAD_INPUT},
@@ -180,12 +201,20 @@ static const struct row rows[] = {
     {"Get Poison List, refused: length", 0, 256, ASK(GET_POISON_LIST, all_lines, 15), BAD_LENGTH},
     {"Get Poison List, refused: unaligned", 0, 256, ASK(GET_POISON_LIST, unaligned, 16), BAD_INPUT},
     {"Get Poison List, refused: past the end", 0, 256, ASK(GET_POISON_LIST, past_end, 16), BAD_ADDRESS},
-    {"Inject Poison of a new line", 0, 255, ASK(INJECT_POISON, new_line, 8), .more_entries = 1, .more_lines = 1},
-    {"Inject Poison of a covered line", 1, 256, ASK(INJECT_POISON, first_line, 8)},
-    {"Inject Poison, refused: 256 entries held", NONE, 256, ASK(INJECT_POISON, new_line, 8), REFUSED(INJECT_POISON_LIMIT)},
-    {"Inject Poison, refused: length", 0, 256, ASK(INJECT_POISON, new_line, 7), BAD_LENGTH},
-    {"Inject Poison, refused: unaligned", 0, 256, ASK(INJECT_POISON, unaligned, 8), BAD_INPUT},
-    {"Inject Poison, refused: outside", 0, 256, ASK(INJECT_POISON, outside, 8), BAD_ADDRESS},
+    {"Inject Poison of a new line", 0, 255, ASK(INJECT_POISON, new_line, 8), .info_room = 8, RAISES(INFO), ONE_LINE_MORE,
+     .more_records = 1, .event = first_event},
+    {"Inject Poison of a new line, log Info disabled", 0, 255, ASK(INJECT_POISON, new_line, 8), .info_room = 8, .disabled = true,
+     ONE_LINE_MORE, .more_records = 1, .event = first_event},
+    {"Inject Poison of a new line, log Info not empty", 0, 255, ASK(INJECT_POISON, new_line, 8), .info_room = 7, ONE_LINE_MORE,
+     .more_records = 1, .event = second_event},
+    {"Inject Poison of a new line, log Info full", 0, 255, ASK(INJECT_POISON, new_line, 8), ONE_LINE_MORE, .more_overflow = 1,
+     .event = eighth_event},
+    {"Inject Poison of a covered line", 1, 256, ASK(INJECT_POISON, first_line, 8), .info_room = 8},
+    {"Inject Poison of a covered line, log Info full", 1, 256, ASK(INJECT_POISON, first_line, 8), .event = eighth_event},
+    {"Inject Poison, refused: 256 entries held", NONE, 256, ASK(INJECT_POISON, new_line, 8), .info_room = 8, REFUSED(INJECT_POISON_LIMIT)},
+    {"Inject Poison, refused: length", 0, 256, ASK(INJECT_POISON, new_line, 7), .info_room = 8, BAD_LENGTH},
+    {"Inject Poison, refused: unaligned", 0, 256, ASK(INJECT_POISON, unaligned, 8), .info_room = 8, BAD_INPUT},
+    {"Inject Poison, refused: outside", 0, 256, ASK(INJECT_POISON, outside, 8), .info_room = 8, BAD_ADDRESS},
     {"Clear Poison of an uncovered line", 0, 256, ASK(CLEAR_POISON, new_line, 72)},
     {"Clear Poison of an entry's only line", 1, 256, ASK(CLEAR_POISON, first_line, 72), .more_entries = -1, .more_lines = -1},
     {"Clear Poison of an entry's first line", 1, 256, ASK(CLEAR_POISON, first_line, 72), .long_by = 2, .more_lines = -1},
@@ -200,11 +229,16 @@ static const struct row rows[] = {
     {"command, refused: reply buffer too small", 0, 256, ASK(IDENTIFY, none, 0), .missing = 1, REFUSED(REPLY_BUFFER_TOO_SMALL)},
     {"command, refused: payload over 2,048 bytes", 0, 256, ASK(IDENTIFY, too_long, sizeof too_long), BAD_LENGTH},
     {"command, refused: unknown opcode", 0, 256, .call = command, .opcode = 0x7777, .payload = none, REFUSED(UNSUPPORTED_OPCODE)},
-    {"event report to a log with room", 0, 256, EVENT(LOG_WARNING, 128), .values = {1}, .more_records = 1},
-    {"event report to a full log", 0, 256, EVENT(LOG_INFO, 128), .values = {0}},
-    {"event report, refused: length", 0, 256, EVENT(LOG_INFO, 127), BAD_LENGTH},
+    {"event report to a log with room", 0, 256, EVENT(LOG_INFO, 128), .values = {1}, .info_room = 1, .more_records = 1,
+     .event = eighth_event},
+    {"event report to an empty log", 0, 256, EVENT(LOG_WARNING, 128), .values = {1}, RAISES(WARNING), .more_records = 1},
+    {"event report to an empty log, log Dynamic Capacity", 0, 256, EVENT(LOG_DYNAMIC_CAPACITY, 128), .values = {1},
+     RAISES(DYNAMIC_CAPACITY), .more_records = 1},
+    {"event report to an empty log, disabled", 0, 256, EVENT(LOG_FATAL, 128), .values = {1}, .disabled = true, .more_records = 1},
+    {"event report to a full log", 0, 256, EVENT(LOG_INFO, 128), .values = {0}, .more_overflow = 1, .event = eighth_event},
+    {"event report, refused: length", 0, 256, EVENT(LOG_INFO, 127), .info_room = 8, BAD_LENGTH},
     {"event report, refused: log", 0, 256, EVENT(EVENT_LOGS, 128), BAD_INPUT},
-    {"media report of a new line", 0, 255, MEDIA(FREE, 1, 1), .values = {1}, .more_entries = 1, .more_lines = 1},
+    {"media report of a new line", 0, 255, MEDIA(FREE, 1, 1), .values = {1}, ONE_LINE_MORE},
     {"media report of a covered line", 1, 256, MEDIA(ENTRY, 1, 1), .values = {0, 0}},
     {"media report of two runs", 1, 254, MEDIA(ENTRY - LINE, 3, 1), .values = {2}, .more_entries = 2, .more_lines = 2},
     {"media report of two runs, one dropped", NONE, 255, MEDIA(ENTRY - LINE, 3, 1), .values = {1, 1}, .more_entries = 1,
@@ -233,22 +267,29 @@ enum { ROWS = sizeof rows / sizeof *rows };
 
 /* ---- A device before and after the call */
 struct held {
-    uint64_t entries, lines, records;
+    uint64_t entries, lines, records, overflow;
     bool flag;
+    uint8_t event[KULDUVOST_EVENT_RECORD_SIZE]; /* the last of log Info */
 };
 
 static uint64_t number(const uint8_t *from, size_t bytes) { return bytes == 0 ? 0 : from[0] | number(from + 1, bytes - 1) << 8; }
 
 static size_t ask(uint16_t opcode, const uint8_t *payload, size_t length) {
-    return kulduvost_command(&device, opcode, payload, length, 1000, reply, sizeof reply).length;
+    return kulduvost_command(&device, opcode, payload, length, TIME, reply, sizeof reply).length;
 }
 
-/* By its replies: the records of its five logs, and the entries, read on from the end of the last where there are more. */
+/* By its replies: the records of its five logs and what they counted as overflow, and the entries, read on from the end of the last where
+ * there are more. */
 static struct held held(void) {
-    struct held all = {0, 0, 0, false};
+    struct held all = {.entries = 0};
     uint64_t from = 0;
     for (uint8_t log = 0; log < KULDUVOST_EVENT_LOGS; log++) {
-        all.records += (ask(KULDUVOST_GET_EVENT_RECORDS, &log, 1) - 32) / KULDUVOST_EVENT_RECORD_SIZE;
+        size_t records = (ask(KULDUVOST_GET_EVENT_RECORDS, &log, 1) - 32) / KULDUVOST_EVENT_RECORD_SIZE;
+        all.records += records;
+        all.overflow += number(reply + 2, 2);
+        if (log == KULDUVOST_LOG_INFO && records > 0) {
+            memcpy(all.event, reply + 32 + (records - 1) * KULDUVOST_EVENT_RECORD_SIZE, KULDUVOST_EVENT_RECORD_SIZE);
+        }
     }
     do {
         const uint8_t rest[16] = {BYTES(from), BYTES((END - from) / LINE)};
@@ -269,49 +310,60 @@ static uint64_t entry_at(int i) { return (ENTRY + (uint64_t)i * GAP) % END; }
 
 static void fill(int entries, uint32_t lines) {
     for (int i = 0; i < entries; i++) {
-        kulduvost_media_report(&device, 1000, entry_at(i), lines, 1);
+        kulduvost_media_report(&device, TIME, entry_at(i), lines, 1);
     }
 }
 
 /* The overflow flag stays when the entries that filled the list are cleared. */
 static void set_flag(void) {
     fill(KULDUVOST_POISON_ENTRIES, 1);
-    kulduvost_media_report(&device, 1000, FREE, 1, 1);
+    kulduvost_media_report(&device, TIME, FREE, 1, 1);
     for (int i = 0; i < KULDUVOST_POISON_ENTRIES; i++) {
         const uint8_t clear[72] = {BYTES(entry_at(i))};
         ask(KULDUVOST_CLEAR_POISON, clear, sizeof clear);
     }
 }
 
-/* The entries; eight records in logs Info, with handles 1 to 8, and Failure, which has dropped a ninth. For make, memory all zero. */
+static void fill_log(uint8_t log, int records) {
+    for (int i = 0; i < records; i++) {
+        kulduvost_event_report(&device, TIME, log, record, sizeof record);
+    }
+}
+
+/* The clock set; the entries; eight records in logs Info, with handles 1 to 8, or as many fewer as it has room for, and Failure, which has
+ * dropped a ninth. For make, memory all zero. */
 static void prepare(const struct row *row, int entries) {
     memset(&device, 0, sizeof device);
-    told = (struct answer){UINT16_MAX, {0}}; /* no call's answer */
+    told = (struct answer){.code = UINT16_MAX}; /* no call's answer */
     if (row->call == make) {
         return;
     }
     kulduvost_make(&device, 1, 0);
+    kulduvost_command(&device, KULDUVOST_SET_TIMESTAMP, timestamp, sizeof timestamp, SET_AT, reply, sizeof reply);
+    if (!row->disabled) {
+        ask(KULDUVOST_SET_EVENT_INTERRUPT_POLICY, enabling, sizeof enabling);
+    }
     if (row->flag_before) {
         set_flag();
     }
     fill(entries, 1 + row->long_by);
-    for (int i = 0; i < KULDUVOST_EVENT_LOG_RECORDS; i++) {
-        kulduvost_event_report(&device, 1000, KULDUVOST_LOG_INFO, record, sizeof record);
-        kulduvost_event_report(&device, 1000, KULDUVOST_LOG_FAILURE, record, sizeof record);
-    }
-    kulduvost_event_report(&device, 1000, KULDUVOST_LOG_FAILURE, record, sizeof record);
+    fill_log(KULDUVOST_LOG_INFO, KULDUVOST_EVENT_LOG_RECORDS - row->info_room);
+    fill_log(KULDUVOST_LOG_FAILURE, KULDUVOST_EVENT_LOG_RECORDS + 1);
 }
 
 /* Whether the call answered, and the device holds after it, what the row says of so many entries. */
 static bool as_expected(const struct row *row, int entries) {
-    uint64_t lines = (uint64_t)entries * (1 + row->long_by), records = row->call == make ? 0 : 2 * KULDUVOST_EVENT_LOG_RECORDS;
+    uint64_t lines = (uint64_t)entries * (1 + row->long_by);
+    int records = row->call == make ? 0 : 2 * KULDUVOST_EVENT_LOG_RECORDS - row->info_room, overflow = row->call == make ? 0 : 1;
     struct held after = held();
-    bool same = told.code == row->code;
+    bool same = told.code == row->code && told.vector == row->vector;
     for (size_t i = 0; i < 3; i++) {
         same = same && told.values[i] == (row->values[i] == AS_HELD ? lines : row->values[i]);
     }
+    same = same && (row->event == NULL || memcmp(after.event, row->event, sizeof after.event) == 0);
     return same && after.entries == (uint64_t)(entries + row->more_entries) && after.lines == lines + (uint64_t)row->more_lines &&
-           after.records == records + (uint64_t)row->more_records && after.flag == (row->flag_before || row->flag_set);
+           after.records == (uint64_t)(records + row->more_records) && after.overflow == (uint64_t)(overflow + row->more_overflow) &&
+           after.flag == (row->flag_before || row->flag_set);
 }
 
 /* ---- Tests and table */
@@ -366,7 +418,7 @@ static int deep(void) {
     return 0;
 }
 static int (*volatile deep_pointer)(void) = deep;
-CALL(call_deep, int, deep_pointer(), 0, {(uint64_t)a})
+CALL(call_deep, int, deep_pointer(), .values = {(uint64_t)a})
 
 int main(void) {
     printf("| Call | 0 entries | 256 entries |\n|---|---|---|\n");

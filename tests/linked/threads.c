@@ -64,6 +64,7 @@ static void command(struct tested *tested, uint16_t opcode, const uint8_t *paylo
     kulduvost_command_answer done =
         kulduvost_command(&tested->device, opcode, payload, length, next(tested), tested->reply, sizeof tested->reply);
     add(tested, done.code);
+    add(tested, done.vector);
     add(tested, done.length);
     add_bytes(tested, tested->reply, done.length);
 }
@@ -116,6 +117,7 @@ static void event_report(struct tested *tested) {
     kulduvost_event_answer told = kulduvost_event_report(&tested->device, time, log, record, sizeof record);
     add(tested, told.code);
     add(tested, told.stored);
+    add(tested, told.vector);
 }
 
 static void media_report(struct tested *tested) {
