@@ -80,7 +80,7 @@ impl Bench {
             // "A refused EV, MD or LT prints mark and code only."
             Record::Event { time, log, record } => {
                 match self.device.event_report(*log, record, *time) {
-                    Ok(stored) => self.line.numbers([0, u128::from(stored)]),
+                    Ok(reported) => self.line.numbers([0, u128::from(reported.stored)]),
                     Err(refusal) => self.line.number(refusal.number()),
                 }
             }

@@ -246,7 +246,7 @@ fn words_of_record(format: Format, stream: &[u8], number: usize) -> Next<String>
 }
 
 /// Where two long replies differ first, since that is hard to see in hex, or
-/// that the column after them does.
+/// that a column after them does. Nothing where there is no reply.
 fn reply_byte(expected: &str, came: &str) -> String {
     let reply = |line: &str| {
         let marks = ["CM ", "RQ ", "RW ", "WK "];
@@ -256,8 +256,11 @@ fn reply_byte(expected: &str, came: &str) -> String {
     let (Some(expected), Some(came)) = (reply(expected), reply(came)) else {
         return String::new();
     };
-    if expected == came && expected.len() > 1 {
-        return "\n  the replies are alike, the last column differs".to_string();
+    if expected == came {
+        return match expected.as_str() {
+            "-" => String::new(),
+            _ => "\n  the replies are alike, a column after them differs".to_string(),
+        };
     }
     let same = expected
         .bytes()

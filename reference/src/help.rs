@@ -36,7 +36,8 @@ Reads bench records from standard input and prints a line for each, as document
 reference probe [--fault NAME] < STREAM
 
 Reads probe records from standard input and prints a line for each, as document
-10 says for the records of the base and those of W-202. Exit status 0, after BAD too.
+10 says for the records of the base and those of W-202, with the vector column of
+W-204. Exit status 0, after BAD too.
 
   --fault NAME  with a planted fault of `reference faults --format probe`
 ",
@@ -129,7 +130,7 @@ faults that the seeds find and M those that they do not.
 
   --program PATH     a path, or a path and arguments with blanks between them
   --format F         bench (so if not given) or probe
-  --seeds A..B       the seeds from A to B - 1 (0..234), or one seed: --seeds A
+  --seeds A..B       the seeds from A to B - 1 (0..276), or one seed: --seeds A
   --profile P        this profile for all seeds, not the one that a seed chooses
   --without-host     takes the records of the host's side (RQ, RP, RW, WK) out of the
                      streams, for a program over the device's library alone

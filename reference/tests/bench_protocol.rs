@@ -109,3 +109,29 @@ fn refused_device_side_calls_print_mark_and_code() {
     Record::Line { address: 1 }.encode(&mut stream);
     assert_eq!(lines(&stream), "NW 0\nEV 2\nMD 15\nLT 2\n");
 }
+
+/// W-204 adds no column here: the lines of calls that carry a vector are as before.
+#[test]
+fn no_vector_is_printed() {
+    let mut stream = b"NW\x01\0\0\0".to_vec();
+    let command = |opcode, payload: &[u8]| Record::Command {
+        time: 0,
+        opcode,
+        payload: payload.to_vec(),
+    };
+    command(0x0103, &[1; 5]).encode(&mut stream);
+    command(0x4301, &[0; 8]).encode(&mut stream);
+    Record::Event {
+        time: 0,
+        log: 1,
+        record: vec![0; 128],
+    }
+    .encode(&mut stream);
+    assert_eq!(lines(&stream), "NW 0\nCM 0 0\nCM 0 0\nEV 0 1\n");
+    // The event of the injection is seen: one record with length 128 at byte 16.
+    command(0x0100, &[0]).encode(&mut stream);
+    let record = format!("{}80000000{}{}", "00".repeat(16), "0100", "00".repeat(106));
+    let head = format!("{}0100{}", "00".repeat(20), "00".repeat(10));
+    let last = lines(&stream).lines().last().unwrap().to_string();
+    assert_eq!(last, format!("CM 0 160 {head}{record}"));
+}

@@ -190,6 +190,8 @@ fn stated_answers_are_those_of_the_record() {
         "event log=0 fill=00 => clean",
         "command identify => timestamp=0",
         "command identify => kept=1",
+        "command inject-poison address=0 => vector=2",
+        "event log=0 fill=00 => vector=none",
     ] {
         let message = error(text);
         assert!(
@@ -207,6 +209,14 @@ fn stated_answers_are_those_of_the_record() {
         (
             "command identify => reply=0",
             "reply= with bytes in hex, not `0`",
+        ),
+        (
+            "event log=0 fill=00 => vector=no",
+            "vector= with a number or none, not `no`",
+        ),
+        (
+            "command inject-poison address=0 => vector=2,2",
+            "vector= with a number or none, not `2,2`",
         ),
         (
             "bytes \"XX\" => offset=here",
@@ -574,6 +584,8 @@ fn explanations_decode_replies() {
         line address=128\n\
         command get-poison-list address=0 lines=4\n\
         command inject-poison address=1\n\
+        command time=9 inject-poison address=0x40\n\
+        command get-event-records log=0\n\
         bytes \"XX\"\n";
     let words = explain(&read(text), &output(text));
     for expected in [
@@ -588,6 +600,8 @@ fn explanations_decode_replies() {
         "damaged, type 2 (internal)",
         "record: address 128 (0x80), type 2 (internal), 2 lines",
         "refused: invalid input (0002h): length 0",
+        "record: handle 1, timestamp 14, identifier 00000000000000000000000000000000, length 128, \
+         flags 000000h, related handle 0, injection of address 64 (0x40)\n",
         "the stream is bad at offset",
     ] {
         assert!(words.contains(expected), "{expected} not in\n{words}");
@@ -610,25 +624,34 @@ fn explained(lines: &[(&str, &str)]) -> Vec<String> {
 
 #[test]
 fn explanations_of_probe_lines() {
-    let identify = "CM 0 2 4257 1";
+    let identify = "CM 0 2 4257 1 0";
     let cases = [
         ("command fill=aa identify", identify, "success: identify, reply of 2 bytes, the other 2,046 bytes of the buffer still 0xaa"),
-        ("command fill=aa identify", "CM 0 2 4257 0", "success: identify, reply of 2 bytes, NOT KEPT: the other 2,046 bytes of the buffer are no longer all 0xaa"),
+        ("command fill=aa identify", "CM 0 2 4257 0 0", "success: identify, reply of 2 bytes, NOT KEPT: the other 2,046 bytes of the buffer are no longer all 0xaa"),
         ("command room=2 identify", identify, "success: identify, reply of 2 bytes, which is the whole buffer"),
         ("command room=1 identify", identify, "success: identify, reply of 2 bytes, LONGER THAN THE BUFFER of 1 byte"),
-        ("command room=2047 fill=aa identify", "CM 256 0 - 1", "refused: reply buffer too small (0100h): length 0, all 2,047 bytes of the buffer still 0xaa"),
-        ("command room=2047 fill=0a identify", "CM 256 0 - 0", "refused: reply buffer too small (0100h): length 0, NOT KEPT: the 2,047 bytes of the buffer are no longer all 0x0a"),
-        ("command room=1 fill=55 identify", "CM 256 0 - 1", "refused: reply buffer too small (0100h): length 0, the 1 byte of the buffer still 0x55"),
-        ("command room=0 identify", "CM 256 0 - 1", "refused: reply buffer too small (0100h): length 0, the buffer is empty"),
-        ("command set-timestamp value=1", "CM 0 0 - 1", "success: set-timestamp, no reply, all 2,048 bytes of the buffer still 0x00"),
-        ("command opcode=1", "CM 3 0 - 1", "refused: unsupported (0003h): length 0, all 2,048 bytes of the buffer still 0x00"),
+        ("command room=2047 fill=aa identify", "CM 256 0 - 1 0", "refused: reply buffer too small (0100h): length 0, all 2,047 bytes of the buffer still 0xaa"),
+        ("command room=2047 fill=0a identify", "CM 256 0 - 0 0", "refused: reply buffer too small (0100h): length 0, NOT KEPT: the 2,047 bytes of the buffer are no longer all 0x0a"),
+        ("command room=1 fill=55 identify", "CM 256 0 - 1 0", "refused: reply buffer too small (0100h): length 0, the 1 byte of the buffer still 0x55"),
+        ("command room=0 identify", "CM 256 0 - 1 0", "refused: reply buffer too small (0100h): length 0, the buffer is empty"),
+        ("command set-timestamp value=1", "CM 0 0 - 1 0", "success: set-timestamp, no reply, all 2,048 bytes of the buffer still 0x00"),
+        ("command opcode=1", "CM 3 0 - 1 0", "refused: unsupported (0003h): length 0, all 2,048 bytes of the buffer still 0x00"),
         ("new 0 0", "NW 2", "refused: invalid input (0002h); the device beside it has one volatile unit"),
         ("new 1 0", "NW 0", "success: the device is made"),
-        ("event log=0 fill=00", "EV 0 1", "success: the event record is stored"),
-        ("event log=0 fill=00", "EV 0 0", "success: not stored, the log is full and counts an overflow"),
-        ("event log=5 fill=00", "EV 2 0", "refused: invalid input (0002h), not stored"),
-        ("event log=0 bytes=", "EV 22 0", "refused: invalid payload length (0016h), not stored"),
-        ("event log=0 bytes=", "EV 22 1", "refused: invalid payload length (0016h), BUT STORED"),
+        ("event log=0 fill=00", "EV 0 1 0", "success: the event record is stored; no vector"),
+        ("event log=0 fill=00", "EV 0 0 0", "success: not stored, the log is full and counts an overflow; no vector"),
+        ("event log=5 fill=00", "EV 2 0 0", "refused: invalid input (0002h), not stored"),
+        ("event log=0 bytes=", "EV 22 0 0", "refused: invalid payload length (0016h), not stored"),
+        ("event log=0 bytes=", "EV 22 1 0", "refused: invalid payload length (0016h), BUT STORED"),
+        ("event log=1 fill=00", "EV 0 1 3", "success: the event record is stored; raise vector 3"),
+        ("event log=1 fill=00", "EV 0 0 3", "success: not stored, the log is full and counts an overflow; BUT RAISE VECTOR 3"),
+        ("event log=5 fill=00", "EV 2 0 2", "refused: invalid input (0002h), not stored; BUT RAISE VECTOR 2"),
+        ("event log=0 fill=00", "EV 0 1", "not a line of this record: EV 0 1"),
+        ("command room=0 inject-poison address=0", "CM 0 0 - 1 2", "success: inject-poison, no reply, the buffer is empty; raise vector 2"),
+        ("command room=0 inject-poison address=0", "CM 0 0 - 1 0", "success: inject-poison, no reply, the buffer is empty; no vector"),
+        ("command room=0 inject-poison address=1", "CM 2 0 - 1 0", "refused: invalid input (0002h): length 0, the buffer is empty"),
+        ("command room=0 inject-poison address=1", "CM 2 0 - 1 2", "refused: invalid input (0002h): length 0, the buffer is empty; BUT RAISE VECTOR 2"),
+        ("command room=0 clear-poison address=0", "CM 0 0 - 1 2", "success: clear-poison, no reply, the buffer is empty; BUT RAISE VECTOR 2"),
         ("media address=0 lines=2 type=0", "MD 0 1 1", "success: 1 line stored, 1 line dropped"),
         ("media address=0 lines=0 type=0", "MD 2 0 0", "refused: invalid input (0002h), 0 lines stored, 0 lines dropped"),
         ("media address=0 lines=0 type=0", "MD 2 0 4", "refused: invalid input (0002h), BUT 0 lines stored, 4 lines dropped"),
@@ -658,13 +681,16 @@ fn explanations_of_probe_lines() {
         (2, "overflow 0, more 1), 0 records, more to read"),
         (3, "overflow 1, more 1), 0 records, more to read"),
     ] {
-        let line = format!("CM 0 32 {flags:02x}{} 1", "00".repeat(31));
+        let line = format!("CM 0 32 {flags:02x}{} 1 0", "00".repeat(31));
         let said = &explained(&[("command get-event-records log=2", &line)])[1];
         assert_eq!(said, &format!("log 2 (Failure): flags {flags} ({words}"));
     }
     let lines = [
-        ("command fill=01 get-timestamp", "CM 0 8 0500000000000000 1"),
-        ("command inject-poison address=1", "CM 2 1 ff 1"),
+        (
+            "command fill=01 get-timestamp",
+            "CM 0 8 0500000000000000 1 0",
+        ),
+        ("command inject-poison address=1", "CM 2 1 ff 1 0"),
     ];
     assert_eq!(
         explained(&lines),
@@ -681,19 +707,26 @@ fn explanations_of_probe_lines() {
 fn expectations_of_probe_lines() {
     let lines = [
         ("new 1 0 => success code=0", "NW 0"),
-        ("command room=1 get-timestamp => reply-buffer-too-small code=0x100 length=0 reply=- kept=1", "CM 256 0 - 1"),
-        ("command get-timestamp => success length=8 reply=00*8 timestamp=0 kept=0", "CM 0 8 0000000000000000 0"),
-        ("command inject-poison address=0 => success reply= kept=1", "CM 0 0 - 1"),
-        ("event log=5 fill=00 => invalid-input not-stored stored=0", "EV 2 0"),
-        ("event log=0 fill=00 => success stored", "EV 0 1"),
+        ("command room=1 get-timestamp => reply-buffer-too-small code=0x100 length=0 reply=- kept=1", "CM 256 0 - 1 0"),
+        ("command get-timestamp => success length=8 reply=00*8 timestamp=0 kept=0", "CM 0 8 0000000000000000 0 0"),
+        ("command inject-poison address=0 => success reply= kept=1", "CM 0 0 - 1 0"),
+        ("event log=5 fill=00 => invalid-input not-stored stored=0", "EV 2 0 0"),
+        ("event log=0 fill=00 => success stored", "EV 0 1 0"),
+        ("event log=0 fill=00 => stored vector=2", "EV 0 1 2"),
+        ("event log=0 fill=00 => stored vector=none", "EV 0 1 0"),
+        ("event log=0 fill=00 => stored vector=0", "EV 0 1 0"),
+        ("event log=0 fill=00 => stored", "EV 0 1 5"),
+        ("command inject-poison address=0 => success vector=0x2", "CM 0 0 - 1 2"),
+        ("command inject-poison address=0 => success vector=none", "CM 0 0 - 1 2"),
+        ("event log=0 fill=00 => vector=2", "EV 0 1 0"),
         ("media address=1 lines=1 type=0 => invalid-input stored=0 dropped=0", "MD 2 0 0"),
         ("line address=1 => invalid-input unknown answer=2 type=0", "LT 2 2 0"),
         ("status => bits=0x11 waiting=2 highest=4 logs=info,dynamic-capacity highest-log=dynamic-capacity", "ES 17 2 4"),
         ("status => bits=0 waiting=0 highest=5 logs=none highest-log=none", "ES 0 0 5"),
         ("total => lines=12", "DT 12"),
         ("total => lines=13", "DT 12"),
-        ("event log=5 fill=00 => invalid-input not-stored", "EV 2 1"),
-        ("command get-timestamp => kept=1", "CM 0 8 0000000000000000 0"),
+        ("event log=5 fill=00 => invalid-input not-stored", "EV 2 1 0"),
+        ("command get-timestamp => kept=1", "CM 0 8 0000000000000000 0 0"),
         ("bytes \"PC\" => bad", "BAD 1"),
     ];
     let words: Vec<&str> = lines.iter().map(|(words, _)| *words).collect();
@@ -705,10 +738,15 @@ fn expectations_of_probe_lines() {
         .iter()
         .filter(|line| line.starts_with("fail"))
         .collect();
-    assert_eq!((report.passed, report.failed), (12, 3), "{failed:?}");
+    assert_eq!((report.passed, report.failed), (17, 5), "{failed:?}");
     assert_eq!(
-        failed[0],
-        "fail 13: total: expected lines=13; came lines=12"
+        *failed[0],
+        "fail 13: command inject-poison address=0: expected success vector=none; \
+         came success code=0 length=0 kept=1 vector=2"
+    );
+    assert_eq!(
+        failed[2],
+        "fail 20: total: expected lines=13; came lines=12"
     );
 }
 

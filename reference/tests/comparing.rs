@@ -73,8 +73,8 @@ fn profiles_say_how_many_streams_they_have() {
     }
 }
 
-/// At least as many seeds for each as the default of 210 gave before W-202 brought its
-/// profiles: 8 or 9 of bench, 6 or 7 of probe.
+/// At least as many seeds for each as the default of 210 gave before W-202 and W-204
+/// brought their profiles: 8 or 9 of bench, 6 or 7 of probe.
 #[test]
 fn every_profile_has_its_seeds() {
     for (format, least) in [(Bench, 9), (Probe, 6)] {
@@ -140,12 +140,19 @@ fn a_difference_is_reported() {
     let totals = run(&one, &faulty, &mut |text| said.push(text));
     assert_eq!(totals, (0, 1));
     assert!(said[1].contains(" room=2048 fill="));
-    assert!(said[1].contains("\n  came:     CM 256 0 - 1"));
+    assert!(said[1].contains("\n  came:     CM 256 0 - 1 0"));
     // A long reply that is right beside a byte that was not kept.
     let faulty = Subject::program(&format!("{PROGRAM} probe --fault byte-past-reply"));
     let totals = run(&one, &faulty, &mut |text| said.push(text));
     assert_eq!(totals, (0, 1));
-    assert!(said[2].ends_with("\n  the replies are alike, the last column differs"));
+    assert!(said[2].ends_with("\n  the replies are alike, a column after them differs"));
+    // The vector differs where there is no reply.
+    let faulty = Subject::program(&format!("{PROGRAM} probe --fault inject-vector-not-told"));
+    let one = plan(Probe, 0..1, Some("inject-events"));
+    let totals = run(&one, &faulty, &mut |text| said.push(text));
+    assert_eq!(totals, (0, 1));
+    assert!(said[3].contains(" inject-poison address="));
+    assert!(said[3].ends_with("\n  expected: CM 0 0 - 1 2\n  came:     CM 0 0 - 1 0"));
 }
 
 #[test]
@@ -329,10 +336,10 @@ fn probe_profiles_reach_what_they_are_about() {
     // A reply that fills its room, one with a byte to spare, a refused room.
     let rooms = text("rooms");
     assert!(rooms.contains("CM 0 2048 "));
-    assert!(rooms.contains("CM 256 0 - 1\n"));
+    assert!(rooms.contains("CM 256 0 - 1 0\n"));
     // Not stored for want of a place, for the size, for the log.
     let sizes = text("event-sizes");
-    for line in ["EV 0 1\n", "EV 0 0\n", "EV 22 0\n", "EV 2 0\n"] {
+    for line in ["EV 0 1 0\n", "EV 0 0 0\n", "EV 22 0 0\n", "EV 2 0 0\n"] {
         assert!(sizes.contains(line));
     }
     // Last line and the one past it of the one volatile unit.
@@ -409,6 +416,138 @@ fn default_seeds_walk_lists() {
     assert!(exact > 100 && longer > 100 && short > 20 && cut > 20);
     for code in [0, 2, 0x000f, 0x0100] {
         assert!(codes.contains(&code));
+    }
+}
+
+/// The last column of a line of probe.
+fn last_column(line: &[u8]) -> u64 {
+    let line = std::str::from_utf8(line).unwrap().trim_end();
+    line.rsplit(' ').next().unwrap().parse().unwrap()
+}
+
+/// The situations of W-204 in the streams of the default seeds, with how often each is
+/// reached. The streams are run by the probe's model, for bench too, since its lines tell
+/// the vector.
+fn situations(format: Format) -> std::collections::BTreeMap<String, usize> {
+    let mut found = std::collections::BTreeMap::new();
+    let names = ["vectors", "handles-come-round"];
+    for seed in DEFAULT_SEEDS {
+        let profile = profile_of(format, seed);
+        if !names.contains(&profile.name) && !profile.name.starts_with("inject-") {
+            continue;
+        }
+        let stream = profile.stream_of(format, seed, 0, None);
+        let mut model = reference::probe::Probe::new(Config::default());
+        let mut injected = false;
+        for (_, record) in format.records(&stream) {
+            let record = record.unwrap();
+            let before = model.device().clone();
+            model.step(&record);
+            let vector = last_column(model.line.as_bytes());
+            let mut count = |what: String| *found.entry(what).or_insert(0) += 1;
+            let state = |log: usize| match (before.log(log), before.log(log).overflow_count()) {
+                (log, _) if log.is_empty() => "empty",
+                (log, _) if !log.is_full() => "in part",
+                (_, 0) => "full",
+                _ => "overflown",
+            };
+            match &record {
+                Record::Event { log, .. } if *log < 5 => {
+                    let log = usize::from(*log);
+                    count(format!("report, log {log} {}, vector {vector}", state(log)));
+                }
+                Record::Event { .. } => count(format!("report refused, vector {vector}")),
+                Record::Command {
+                    opcode: opcode::INJECT_POISON,
+                    payload,
+                    ..
+                } => {
+                    let line = String::from_utf8_lossy(model.line.as_bytes()).to_string();
+                    let code = line.split(' ').nth(1).unwrap();
+                    let entries = before.poison_list().held();
+                    let added = model.device().poison_list().held() > entries;
+                    let what = match (code, added) {
+                        ("0", true) => "adds an entry".to_string(),
+                        ("0", false) if entries == 256 => "covered at 256 entries".to_string(),
+                        ("0", false) => "covered".to_string(),
+                        (code, _) => format!("refused with {code}"),
+                    };
+                    count(format!(
+                        "inject {what}, log 0 {}, vector {vector}",
+                        state(0)
+                    ));
+                    if added && !before.log(0).is_full() {
+                        let handle = before.log(0).next_handle();
+                        if [65_535, 1, 2].contains(&handle) {
+                            count(format!("inject, handle {handle}"));
+                        }
+                        if payload[4..] != [0; 4] {
+                            count("inject, address above 4 GiB".to_string());
+                        }
+                    }
+                    injected = true;
+                    continue;
+                }
+                Record::Command {
+                    opcode: opcode::GET_EVENT_RECORDS,
+                    payload,
+                    ..
+                } if injected && payload == &[0] => count("inject, then read".to_string()),
+                _ => {}
+            }
+            injected = false;
+        }
+    }
+    found
+}
+
+/// Document 02, W-204: every situation that its sentences part is reached by the default
+/// seeds of both formats, those of the vector in bench's streams too.
+#[test]
+fn default_seeds_reach_vectors_and_injections() {
+    for format in [Bench, Probe] {
+        let found = situations(format);
+        let vectors = [2, 3, 4, 5, 2];
+        let mut wanted: Vec<String> = vec!["report refused, vector 0".to_string()];
+        for (log, vector) in vectors.iter().enumerate() {
+            wanted.push(format!("report, log {log} empty, vector {vector}"));
+            for state in ["empty", "in part", "full", "overflown"] {
+                wanted.push(format!("report, log {log} {state}, vector 0"));
+            }
+        }
+        wanted.push("inject adds an entry, log 0 empty, vector 2".to_string());
+        for state in ["empty", "in part", "full", "overflown"] {
+            for what in ["adds an entry", "covered", "covered at 256 entries"] {
+                wanted.push(format!("inject {what}, log 0 {state}, vector 0"));
+            }
+            for code in [2, 15, 16, 22] {
+                wanted.push(format!(
+                    "inject refused with {code}, log 0 {state}, vector 0"
+                ));
+            }
+        }
+        wanted.extend(["inject, handle 65535", "inject, handle 1"].map(String::from));
+        wanted.extend(["inject, address above 4 GiB", "inject, then read"].map(String::from));
+        for what in &wanted {
+            assert!(found.contains_key(what), "{format:?}: {what} in {found:#?}");
+        }
+        // No other vector is carried anywhere.
+        for what in found.keys().filter(|what| !what.ends_with("vector 0")) {
+            let known = wanted.contains(what) || !what.contains("vector");
+            assert!(known, "{format:?}: {what}");
+        }
+        // Often, not by chance.
+        for (what, least) in [
+            ("inject adds an entry, log 0 empty, vector 2", 50),
+            ("inject adds an entry, log 0 full, vector 0", 50),
+            ("inject adds an entry, log 0 overflown, vector 0", 50),
+            ("inject covered, log 0 empty, vector 0", 30),
+            ("inject refused with 16, log 0 empty, vector 0", 20),
+            ("inject covered at 256 entries, log 0 empty, vector 0", 10),
+            ("inject, then read", 300),
+        ] {
+            assert!(found[what] >= least, "{format:?}: {what}: {}", found[what]);
+        }
     }
 }
 

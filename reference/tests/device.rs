@@ -2,6 +2,7 @@
 //! sentences; P1 to P6; W-201 of document 02.
 
 use reference::device::events::{handles_given, more, EventLog};
+use reference::device::logs::Reported;
 use reference::device::numbers::{opcode, Refusal};
 use reference::device::{Config, Device};
 use reference::format::Format;
@@ -9,6 +10,15 @@ use reference::generate::profile_named;
 use reference::probe::Probe;
 
 const SUCCESS: Result<Vec<u8>, Refusal> = Ok(Vec::new());
+/// Event reports without a vector.
+const STORED: Result<Reported, Refusal> = Ok(Reported {
+    stored: true,
+    vector: None,
+});
+const COUNTED: Result<Reported, Refusal> = Ok(Reported {
+    stored: false,
+    vector: None,
+});
 
 fn device() -> Device {
     Device::make(1, 0, Config::default()).1
@@ -47,9 +57,9 @@ fn p1_make() {
 fn p2_eighth_event_stored_ninth_counted() {
     let mut device = device();
     for _ in 0..8 {
-        assert_eq!(device.event_report(0, &[9; 128], 5), Ok(true));
+        assert_eq!(device.event_report(0, &[9; 128], 5), STORED);
     }
-    assert_eq!(device.event_report(0, &[9; 128], 5), Ok(false));
+    assert_eq!(device.event_report(0, &[9; 128], 5), COUNTED);
     let reply = get_events(&mut device, 0);
     assert_eq!(reply.len(), 32 + 8 * 128);
     assert_eq!(reply[..4], [1, 0, 1, 0]);
@@ -87,7 +97,7 @@ fn stored_records_have_handle_and_time() {
     assert!(device
         .answer(opcode::SET_TIMESTAMP, &9u64.to_le_bytes(), 100)
         .is_ok());
-    assert_eq!(device.event_report(4, &given, 101), Ok(true));
+    assert_eq!(device.event_report(4, &given, 101), STORED);
     let mut expected = given;
     expected[20..22].copy_from_slice(&[1, 0]);
     expected[24..32].copy_from_slice(&[10, 0, 0, 0, 0, 0, 0, 0]);
@@ -362,7 +372,8 @@ fn order_and_reply_buffer() {
     let mut ask = |code, payload: &[u8], reply: &mut [u8]| {
         let before = device.clone();
         let answer = device.command(code, payload, 0, reply);
-        (answer, device == before)
+        assert_eq!(answer.vector, None);
+        ((answer.number, answer.length), device == before)
     };
     assert_eq!(ask(0xffff, &[0; 2049], &mut small), ((0x0100, 0), true));
     assert_eq!(ask(opcode::IDENTIFY, &[], &mut small), ((0x0100, 0), true));

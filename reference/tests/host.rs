@@ -163,7 +163,7 @@ fn a_request_built_is_the_one_that_the_device_takes() {
     // Each payload has a length that the device takes: no 0016h.
     for (code, _, payload) in requests() {
         let (_, mut device) = Device::make(1, 0, Config::default());
-        let (number, _) = device.command(code, &payload, 0, &mut [0; 2048]);
+        let number = device.command(code, &payload, 0, &mut [0; 2048]).number;
         assert_ne!(number, 0x16, "{code:04x}");
     }
     let request = Request::InjectPoison { address: 128 };

@@ -1,4 +1,5 @@
-//! Document 10, "Rules" and "Records of the base", sentence by sentence. Streams
+//! Document 10, "Rules" and "Records of the base" with the vector column of W-204,
+//! sentence by sentence. Streams
 //! are laid out here by hand and expected lines are written from the document.
 
 use reference::device::{Config, Fault};
@@ -86,9 +87,9 @@ fn get_poison(room: u16, address: u64, lines: u64) -> Vec<u8> {
 
 #[test]
 fn worked_example_of_document_01() {
-    let expected = "MD 0 3 0\nCM 0 0 - 1\nLT 0 0 0\nLT 0 1 2\nCM 0 64 \
+    let expected = "MD 0 3 0\nCM 0 0 - 1 0\nLT 0 0 0\nLT 0 1 2\nCM 0 64 \
         0000000000000000000002000000000000000000000000000000000000000000\
-        8200000000000000010000000000000002010000000000000100000000000000 1\n\
+        8200000000000000010000000000000002010000000000000100000000000000 1 0\n\
         ES 0 0 5\nDT 2\n";
     let parts = [
         md(128, 3, 2),
@@ -186,7 +187,7 @@ fn sizes_of_4096_are_taken() {
         ev(0, 4096),
         es(),
     ];
-    let expected = "CM 0 8 0000000000000000 1\nCM 22 0 - 1\nEV 22 0\nES 0 0 5\n";
+    let expected = "CM 0 8 0000000000000000 1 0\nCM 22 0 - 1 0\nEV 22 0 0\nES 0 0 5\n";
     assert_eq!(after_new(&parts), expected);
 }
 
@@ -194,11 +195,14 @@ fn sizes_of_4096_are_taken() {
 fn room_counts_what_is_lent() {
     for fill in [0, 0x5a, 255] {
         for room in [0, 1, 2046, 2047] {
-            assert_eq!(after_new(&[cm(0x0300, room, fill, &[])]), "CM 256 0 - 1\n");
+            assert_eq!(
+                after_new(&[cm(0x0300, room, fill, &[])]),
+                "CM 256 0 - 1 0\n"
+            );
         }
         for room in [2048, 2049, 4095, 4096] {
             let came = after_new(&[cm(0x0300, room, fill, &[])]);
-            assert_eq!(came, "CM 0 8 0000000000000000 1\n");
+            assert_eq!(came, "CM 0 8 0000000000000000 1 0\n");
         }
     }
 }
@@ -212,7 +216,7 @@ fn a_refused_room_leaves_the_device() {
         lt(0),
         dt(),
     ];
-    let expected = "CM 256 0 - 1\nCM 0 8 0000000000000000 1\nCM 256 0 - 1\nLT 0 0 0\nDT 0\n";
+    let expected = "CM 256 0 - 1 0\nCM 0 8 0000000000000000 1 0\nCM 256 0 - 1 0\nLT 0 0 0\nDT 0\n";
     assert_eq!(after_new(&parts), expected);
 }
 
@@ -222,15 +226,18 @@ fn order_of_refusals() {
     // 0100h before all others.
     for (opcode, length) in [(unknown, 0), (unknown, 4096), (0x4301, 7), (0x4301, 2049)] {
         let came = after_new(&[cm(opcode, 2047, 1, &vec![0; length])]);
-        assert_eq!(came, "CM 256 0 - 1\n");
+        assert_eq!(came, "CM 256 0 - 1 0\n");
     }
-    assert_eq!(after_new(&[cm(0x4301, 2047, 1, &[1; 8])]), "CM 256 0 - 1\n");
+    assert_eq!(
+        after_new(&[cm(0x4301, 2047, 1, &[1; 8])]),
+        "CM 256 0 - 1 0\n"
+    );
     // A payload over 2,048 bytes before 0003h; one of 2,048 after it.
-    assert_eq!(after_new(&[call(unknown, &[0; 2049])]), "CM 22 0 - 1\n");
-    assert_eq!(after_new(&[call(unknown, &[0; 2048])]), "CM 3 0 - 1\n");
+    assert_eq!(after_new(&[call(unknown, &[0; 2049])]), "CM 22 0 - 1 0\n");
+    assert_eq!(after_new(&[call(unknown, &[0; 2048])]), "CM 3 0 - 1 0\n");
     // A wrong length before the command's own checks.
-    assert_eq!(after_new(&[call(0x4301, &[1; 9])]), "CM 22 0 - 1\n");
-    assert_eq!(after_new(&[call(0x4301, &[1; 8])]), "CM 2 0 - 1\n");
+    assert_eq!(after_new(&[call(0x4301, &[1; 9])]), "CM 22 0 - 1 0\n");
+    assert_eq!(after_new(&[call(0x4301, &[1; 8])]), "CM 2 0 - 1 0\n");
 }
 
 #[test]
@@ -243,17 +250,17 @@ fn kept_is_of_the_bytes_after_the_reply() {
         ];
         lines_with(fault, &parts)
     };
-    let good = "NW 0\nCM 0 8 0000000000000000 1\nCM 3 0 - 1\n";
+    let good = "NW 0\nCM 0 8 0000000000000000 1 0\nCM 3 0 - 1 0\n";
     assert_eq!(faulty(None, 0), good);
     assert_eq!(faulty(None, 7), good);
     // A zero written after the reply, and zeros written by a refusal.
     let past = Some(Fault::BytePastReply);
     assert_eq!(faulty(past, 0), good);
     let came = faulty(past, 7);
-    assert_eq!(came, "NW 0\nCM 0 8 0000000000000000 0\nCM 3 0 - 1\n");
+    assert_eq!(came, "NW 0\nCM 0 8 0000000000000000 0 0\nCM 3 0 - 1 0\n");
     let refusal = Some(Fault::BufferWrittenOnRefusal);
     let came = faulty(refusal, 7);
-    assert_eq!(came, "NW 0\nCM 0 8 0000000000000000 1\nCM 3 0 - 0\n");
+    assert_eq!(came, "NW 0\nCM 0 8 0000000000000000 1 0\nCM 3 0 - 0 0\n");
 }
 
 #[test]
@@ -267,7 +274,7 @@ fn the_longest_reply_fills_the_smallest_room() {
         assert_eq!(columns[3].len(), 4096);
         // Flag bit 0: 127 entries share a line with the range.
         assert!(columns[3].starts_with("01"));
-        assert_eq!(columns[4..], ["1"]);
+        assert_eq!(columns[4..], ["1", "0"]);
     }
     assert_eq!(all.lines().count(), 129);
 }
@@ -277,13 +284,44 @@ fn an_event_record_has_128_bytes() {
     for length in [0, 1, 127, 129, 4096] {
         // The size comes before the log.
         for log in [0, 4, 5, 255] {
-            assert_eq!(after_new(&[ev(log, length), es()]), "EV 22 0\nES 0 0 5\n");
+            assert_eq!(after_new(&[ev(log, length), es()]), "EV 22 0 0\nES 0 0 5\n");
         }
     }
-    assert_eq!(after_new(&[ev(5, 128), es()]), "EV 2 0\nES 0 0 5\n");
+    assert_eq!(after_new(&[ev(5, 128), es()]), "EV 2 0 0\nES 0 0 5\n");
     let nine = vec![ev(3, 128); 9];
     let came = after_new(&[nine, vec![es()]].concat());
-    assert_eq!(came, "EV 0 1\n".repeat(8) + "EV 0 0\nES 8 1 3\n");
+    assert_eq!(came, "EV 0 1 0\n".repeat(8) + "EV 0 0 0\nES 8 1 3\n");
+}
+
+/// Document 10, W-204: "`CM` and `EV` end in one more column: the vector, 0 for none".
+#[test]
+fn the_last_column_is_the_vector() {
+    let enable = call(0x0103, &[1; 5]);
+    let clear = |log: u8| call(0x0101, &[log, 0, 1, 0, 0, 0, 1, 0]);
+    let parts = [
+        ev(0, 128),
+        clear(0),
+        enable,
+        ev(0, 127),
+        ev(5, 128),
+        ev(0, 128),
+        ev(0, 128),
+        ev(1, 128),
+        ev(2, 128),
+        ev(3, 128),
+        ev(4, 128),
+        call(0x0101, &[0, 0, 2, 0, 0, 0, 2, 0, 3, 0]),
+        cm(0x4301, 2047, 0xee, &[0; 8]),
+        call(0x4301, &[1; 8]),
+        call(0x4301, &[0; 8]),
+        call(0x4301, &[0; 8]),
+        call(0x0300, &[]),
+    ];
+    let expected = "EV 0 1 0\nCM 0 0 - 1 0\nCM 0 0 - 1 0\nEV 22 0 0\nEV 2 0 0\n\
+        EV 0 1 2\nEV 0 1 0\nEV 0 1 3\nEV 0 1 4\nEV 0 1 5\nEV 0 1 2\nCM 0 0 - 1 0\n\
+        CM 256 0 - 1 0\nCM 2 0 - 1 0\nCM 0 0 - 1 2\nCM 0 0 - 1 0\n\
+        CM 0 8 0000000000000000 1 0\n";
+    assert_eq!(after_new(&parts), expected);
 }
 
 #[test]
@@ -350,7 +388,7 @@ fn damage_total_is_the_sum_of_entry_lengths() {
         call(0x4301, &[0; 8]),
         dt(),
     ];
-    let expected = "DT 0\nMD 0 3 0\nDT 3\nCM 0 0 - 1\nDT 2\nMD 0 3 0\nDT 5\nCM 0 0 - 1\nDT 6\n";
+    let expected = "DT 0\nMD 0 3 0\nDT 3\nCM 0 0 - 1 0\nDT 2\nMD 0 3 0\nDT 5\nCM 0 0 - 1 0\nDT 6\n";
     assert_eq!(after_new(&parts), expected);
     // Lines dropped are not counted: 256 entries, the first of three lines.
     let mut parts = vec![md(0, 3, 0)];
@@ -369,7 +407,7 @@ fn damage_total_is_the_sum_of_entry_lengths() {
         "DT 258",
         "MD 0 0 9",
         "DT 258",
-        "CM 0 0 - 1",
+        "CM 0 0 - 1 0",
         "DT 256",
         "LT 0 2 0",
     ];
@@ -389,10 +427,10 @@ fn shown() -> Vec<Vec<u8>> {
     ]
 }
 
-const NOTHING: &str = "ES 0 0 5\nDT 0\nLT 0 0 0\nCM 0 8 0000000000000000 1\n\
-    CM 0 5 0000000000 1\n\
-    CM 0 32 0000000000000000000000000000000000000000000000000000000000000000 1\n\
-    CM 0 32 0000000000000000000000000000000000000000000000000000000000000000 1\n";
+const NOTHING: &str = "ES 0 0 5\nDT 0\nLT 0 0 0\nCM 0 8 0000000000000000 1 0\n\
+    CM 0 5 0000000000 1 0\n\
+    CM 0 32 0000000000000000000000000000000000000000000000000000000000000000 1 0\n\
+    CM 0 32 0000000000000000000000000000000000000000000000000000000000000000 1 0\n";
 
 /// Events past full, a clock, a policy, and a full list with a line dropped.
 fn busy() -> Vec<Vec<u8>> {
@@ -438,7 +476,7 @@ fn the_device_beside_a_refused_make_is_used_on() {
         0800080008000800 00000000 000100 0000 0000 0800"
         .replace(' ', "");
     let expected =
-        format!("NW 2\nLT 0 0 0\nLT 15 2 0\nMD 0 1 0\nLT 0 1 7\nDT 1\nCM 0 69 {identity} 1\n");
+        format!("NW 2\nLT 0 0 0\nLT 15 2 0\nMD 0 1 0\nLT 0 1 7\nDT 1\nCM 0 69 {identity} 1 0\n");
     for make in [nw(0, 0), nw(1024, 0), nw(1023, 1), nw(65535, 1)] {
         let first = lines(&[from_ref(&make), &used[..]].concat());
         assert_eq!(first, expected);

@@ -24,15 +24,16 @@ fn log_word(log: u64) -> String {
     name.to_lowercase().replace(' ', "-")
 }
 
-/// The columns of a line after its mark, as document 10 has them; bench does not
-/// print `kept`. All are decimal numbers but those of bytes. RP's columns are the
-/// fields of its reply, which are read by `host_answers`.
+/// The columns of a line after its mark, as document 10 has them; bench prints
+/// neither `kept` nor `vector`. All are decimal numbers but those of bytes. RP's
+/// columns are the fields of its reply, which are read by `host_answers`.
 fn columns(format: Format, record: &Record) -> &'static [&'static str] {
     match record {
         Record::New { .. } => &["code"],
         Record::Command { .. } if format == Format::Bench => &["code", "length", "reply"],
-        Record::Command { .. } => &["code", "length", "reply", "kept"],
-        Record::Event { .. } => &["code", "stored"],
+        Record::Command { .. } => &["code", "length", "reply", "kept", "vector"],
+        Record::Event { .. } if format == Format::Bench => &["code", "stored"],
+        Record::Event { .. } => &["code", "stored", "vector"],
         Record::Media { .. } => &["code", "stored", "dropped"],
         Record::Line { .. } => &["code", "answer", "type"],
         Record::Status => &["bits", "waiting", "highest"],
@@ -319,6 +320,14 @@ pub fn check_stated(format: Format, expected: &str, record: Option<&Record>) -> 
     Ok(())
 }
 
+/// The number of a stated vector: `none` is the column's 0 ("0 for none").
+pub fn vector_number(text: &str) -> Option<u64> {
+    match text {
+        "none" => Some(0),
+        text => whole_number(text),
+    }
+}
+
 /// An error if a stated value is none that the field can have.
 fn check_value(name: &str, value: &str) -> Result<(), String> {
     let (fits, what): (fn(&str) -> bool, &str) = match name {
@@ -330,10 +339,11 @@ fn check_value(name: &str, value: &str) -> Result<(), String> {
             |name| (0..=5).any(|log| log_word(log) == name),
             "names of logs or none",
         ),
+        "vector" => (|text| vector_number(text).is_some(), "a number or none"),
         "firmware" | "id" | "entries" => return Ok(()),
         _ => (|text| whole_number(text).is_some(), "numbers"),
     };
-    let parts: Vec<&str> = match is_bytes(name) {
+    let parts: Vec<&str> = match is_bytes(name) || name == "vector" {
         true => vec![value],
         false => value.split(',').collect(),
     };

@@ -1,6 +1,6 @@
 //! `check`: the answers a case states against the lines a program printed.
 
-use super::answer::{answer, is_bytes, Answer, BYTES};
+use super::answer::{answer, is_bytes, vector_number, Answer, BYTES};
 use super::encode::Case;
 use super::fields::hex_groups;
 use super::text::whole_number;
@@ -84,6 +84,7 @@ pub fn meets(expected: &str, came: &Answer) -> bool {
             Some((name, value)) => match came.field(name) {
                 None => false,
                 Some(own) if is_bytes(name) => same_bytes(value, own),
+                Some(own) if name == "vector" => vector_number(value) == whole_number(own),
                 Some(own) => same_values(value, own),
             },
         })

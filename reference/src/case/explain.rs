@@ -94,7 +94,9 @@ fn in_words(record: Option<&Record>, answer: &Answer) -> Vec<String> {
             ..
         } => {
             let buffer = buffer(answer, u64::from(*room), *fill);
-            let mut out = vec![command_head(*opcode, answer) + &buffer];
+            let injects = *opcode == opcode::INJECT_POISON && answer.has("success");
+            let vector = vector_words(answer, injects, injects);
+            let mut out = vec![command_head(*opcode, answer) + &buffer + &vector];
             reply_words(*opcode, payload, answer, &mut out);
             out
         }
@@ -117,12 +119,26 @@ fn made(answer: &Answer) -> String {
 }
 
 fn event_report(answer: &Answer) -> String {
-    match refusal(answer) {
-        None if answer.has("stored") => "success: the event record is stored".to_string(),
+    let stored = answer.has("stored");
+    let said = match refusal(answer) {
+        None if stored => "success: the event record is stored".to_string(),
         None => "success: not stored, the log is full and counts an overflow".to_string(),
-        Some(refused) if answer.has("stored") => format!("{refused}, BUT STORED"),
+        Some(refused) if stored => format!("{refused}, BUT STORED"),
         Some(refused) if answer.has("not-stored") => format!("{refused}, not stored"),
         Some(refused) => refused,
+    };
+    let success = answer.has("success");
+    said + &vector_words(answer, success, success && stored)
+}
+
+/// The vector to raise (W-204), in capitals where the call can carry none. That there
+/// is none is said where the call reports an event. Bench's line does not tell of it.
+fn vector_words(answer: &Answer, reports: bool, can_carry: bool) -> String {
+    match answer.number("vector") {
+        Some(0) if reports => "; no vector".to_string(),
+        None | Some(0) => String::new(),
+        Some(vector) if can_carry => format!("; raise vector {vector}"),
+        Some(vector) => format!("; BUT RAISE VECTOR {vector}"),
     }
 }
 
@@ -249,7 +265,7 @@ pub fn reply_words(code: u16, payload: &[u8], answer: &Answer, out: &mut Vec<Str
         }
         _ => {
             for (name, value) in &answer.fields {
-                if !["code", "length", "reply", "kept"].contains(&name.as_str()) {
+                if !["code", "length", "reply", "kept", "vector"].contains(&name.as_str()) {
                     out.push(format!("{name} {value}"));
                 }
             }
@@ -298,13 +314,28 @@ fn event_words(payload: &[u8], answer: &Answer, reply: &[u8], out: &mut Vec<Stri
         crate::bench::push_hex(&mut identifier, &record[..16]);
         out.push(format!(
             "record: handle {}, timestamp {}, identifier {identifier}, length {}, flags {:06x}h, \
-             related handle {}",
+             related handle {}{}",
             number(&record[20..22]),
             number(&record[24..32]),
             record[16],
             number(&record[17..20]),
             number(&record[22..24]),
+            injection_words(record),
         ));
+    }
+}
+
+/// The address of a record that is laid out as an injection's event: "128 zero bytes with
+/// length 128 at byte 16, the address at bytes 48 to 55, then handle and time" (W-204).
+fn injection_words(record: &[u8]) -> String {
+    let named = |at: &usize| matches!(at, 16 | 20..=21 | 24..=31 | 48..=55);
+    let others_zero = (0..record.len()).all(|at| named(&at) || record[at] == 0);
+    match record[16] == 128 && others_zero {
+        true => {
+            let address = number(&record[48..56]);
+            format!(", injection of address {address} ({address:#x})")
+        }
+        false => String::new(),
     }
 }
 

@@ -2,7 +2,7 @@
 //! to length and type; addresses are line numbers here and sums are u128, so
 //! that "sums are of whole numbers" holds without a thought.
 
-use super::numbers::{POISON_RECORDS, POISON_ROOM};
+use super::numbers::{Refusal, POISON_RECORDS, POISON_ROOM};
 use super::{Config, Fault};
 use std::collections::BTreeMap;
 
@@ -160,9 +160,17 @@ impl PoisonList {
         (stored, dropped)
     }
 
-    /// Inject Poison on an uncovered line with room: a one-line entry.
-    pub fn insert_line(&mut self, line: u128) {
+    /// Inject Poison on `line`: "covered, Success and nothing changes; 256 held,
+    /// 0010h; else a one-line entry of type 3". Gives whether an entry was added.
+    pub fn inject(&mut self, line: u128, config: Config) -> Result<bool, Refusal> {
+        if self.covering(line).is_some() {
+            return Ok(false);
+        }
+        if self.full(config) {
+            return Err(Refusal::InjectPoisonLimit);
+        }
         self.entries.insert(line, (1, 3));
+        Ok(true)
     }
 
     /// Clear Poison on `line`.

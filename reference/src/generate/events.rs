@@ -217,10 +217,14 @@ fn drain_log(b: &mut Builder, log: u8) {
 
 /// Handles past 65,535: eight events and a clear of the eight, until they come
 /// round; fine steps and reads where they do, and a drain of 65,535, 1 or of what
-/// a clear of a part left of them.
+/// a clear of a part left of them. In log 0 many of the fine steps are injections,
+/// those for 65,535 and 1 among them.
 pub fn handles_come_round(b: &mut Builder) {
     b.any_device();
     let log = b.random.below(5) as u8;
+    if b.random.one_in(2) {
+        b.command(opcode::SET_POLICY, vec![1; 5]);
+    }
     let other = (log + 1) % 5;
     let drained = b.random.pick(&[2, 3]);
     b.set_target(75_000);
@@ -229,7 +233,13 @@ pub fn handles_come_round(b: &mut Builder) {
         let next = b.device().log(log.into()).next_handle();
         let fine = next > 65_500 || (next < 20 && rounds > 60_000);
         if fine {
-            b.event(log);
+            let injects = !(3..65_534).contains(&next) || b.random.one_in(2);
+            if log == 0 && injects {
+                // Each time another line, so that an entry is added.
+                b.inject((rounds % 1024) * 128);
+            } else {
+                b.event(log);
+            }
             rounds += 1;
             let held = b.device().log(log.into()).handles();
             b.get_events(log);

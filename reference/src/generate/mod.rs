@@ -5,6 +5,7 @@ pub mod builder;
 pub mod commands;
 pub mod events;
 pub mod host;
+pub mod interrupts;
 pub mod malformed;
 pub mod poison;
 pub mod probe;
@@ -127,7 +128,7 @@ pub const PROFILES: &[Profile] = &[
     large(
         "handles-come-round",
         events::handles_come_round,
-        "handles past 65,535 (9 MB)",
+        "handles past 65,535, of log 0 with injections (9 MB)",
     ),
     one(
         "clear-all",
@@ -138,6 +139,11 @@ pub const PROFILES: &[Profile] = &[
         "drain",
         events::drain,
         "a host that clears what it read, with reports between the two",
+    ),
+    one(
+        "vectors",
+        interrupts::vectors,
+        "logs that go from empty to one record and back under changing policies",
     ),
     one(
         "clock",
@@ -227,6 +233,21 @@ pub const PROFILES: &[Profile] = &[
         "drops at several device times",
     ),
     one(
+        "inject-events",
+        interrupts::inject_events,
+        "injections and reports to log 0 with policies, clears and clocks",
+    ),
+    one(
+        "inject-full-log",
+        interrupts::inject_full_log,
+        "injections while log 0 holds seven and eight records, with and without overflow",
+    ),
+    one(
+        "inject-full-list",
+        interrupts::inject_full_list,
+        "injections with 254 to 256 entries while log 0 is empty and while it is not",
+    ),
+    one(
         "poison-mixed",
         poison::poison_mixed,
         "all poison calls mixed",
@@ -314,7 +335,7 @@ pub const PROBE_PROFILES: &[Profile] = &[
 /// Seeds `compare` runs where none are given: two rounds of [`SEED_ROUND`].
 pub const DEFAULT_SEEDS: std::ops::Range<u64> = 0..2 * SEED_ROUND;
 /// Each large profile is chosen by one seed of a round.
-const SEED_ROUND: u64 = 117;
+const SEED_ROUND: u64 = 138;
 
 /// Every profile of a format.
 pub fn profiles(format: Format) -> Vec<&'static Profile> {

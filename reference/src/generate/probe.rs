@@ -17,15 +17,20 @@ fn codes() -> impl Iterator<Item = u16> {
 }
 
 /// A device with something in every reply: records in the logs, one log past
-/// full, a policy, a clock, and a poison list of more than 126 entries.
+/// full, a policy, a clock, and a poison list of more than 126 entries. The events of
+/// the list's injections are cleared at times, so that log 0 is not always full.
 pub fn busy_device(b: &mut Builder) {
     b.any_device();
     let value = b.random.bits() >> b.random.below(64);
     b.set_timestamp(value);
     let policy = b.random.bytes(5).iter().map(|byte| byte & 0xf1).collect();
     b.command(opcode::SET_POLICY, policy);
-    busy_logs(b);
     busy_list(b);
+    if b.random.one_in(2) {
+        let held = b.device().log(0).handles();
+        b.clear_events(0, 0, &held);
+    }
+    busy_logs(b);
 }
 
 /// Records in some logs, often more than a log has room for.

@@ -86,9 +86,9 @@ fn part(
 fn ask(device: &mut Device, address: u64, lines: u64) -> Result<Vec<u8>, Refusal> {
     let request = Request::GetPoisonList { address, lines };
     let mut mailbox = [0; MAILBOX];
-    let (number, length) = device.command(request.code(), &request.payload(), 0, &mut mailbox);
-    match Refusal::of(number) {
+    let answer = device.command(request.code(), &request.payload(), 0, &mut mailbox);
+    match Refusal::of(answer.number) {
         Some(refusal) => Err(refusal),
-        None => Ok(mailbox[..length].to_vec()),
+        None => Ok(mailbox[..answer.length].to_vec()),
     }
 }

@@ -1,6 +1,7 @@
 //! Document 10: records in, a line for each out, every answer whole.
 
 use super::record::{Reader, Record};
+use crate::device::logs::Reported;
 use crate::device::numbers::number_of;
 use crate::device::{Config, Device, Fault, LineAnswer};
 use crate::host::reply::{read, write_again, Unread, Value};
@@ -71,7 +72,8 @@ impl Probe {
             } => {
                 let mut buffer = vec![*fill; usize::from(*room)];
                 let answer = self.device.command(*opcode, payload, *time, &mut buffer);
-                self.answer(answer, &buffer, *fill);
+                self.answer((answer.number, answer.length), &buffer, *fill);
+                self.vector(answer.vector);
             }
             Record::Event { time, log, record } => self.event(*time, *log, record),
             Record::Media {
@@ -145,6 +147,11 @@ impl Probe {
         self.line.number(kept);
     }
 
+    /// "`CM` and `EV` end in one more column: the vector, 0 for none" (W-204)
+    fn vector(&mut self, vector: Option<u8>) {
+        self.line.number(vector.unwrap_or(0));
+    }
+
     /// "bytes lower-case hex, `-` if there are none"
     fn bytes(&mut self, bytes: &[u8]) {
         match bytes.is_empty() {
@@ -180,10 +187,14 @@ impl Probe {
     /// lines, Unknown with type 0."
     fn event(&mut self, time: u64, log: u8, record: &[u8]) {
         let answer = self.device.event_report(log, record, time);
-        let refused = self.config.has(Fault::RefusedEventIsStored);
-        let stored = *answer.as_ref().unwrap_or(&refused);
-        self.line
-            .numbers([number_of(&answer).into(), stored.into()]);
+        let refused = Reported {
+            stored: self.config.has(Fault::RefusedEventIsStored),
+            vector: self.config.has(Fault::RefusedEventHasVector).then_some(2),
+        };
+        let reported = *answer.as_ref().unwrap_or(&refused);
+        let number = number_of(&answer).into();
+        self.line.numbers([number, reported.stored.into()]);
+        self.vector(reported.vector);
     }
 
     fn media(&mut self, time: u64, address: u64, lines: u32, kind: u8) {
