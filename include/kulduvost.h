@@ -74,14 +74,16 @@ enum kulduvost_code {
 enum kulduvost_opcode {
     /* log 1. Log above 4: 0002h. Reply: 32 bytes, then 128 for each record held, oldest first. */
     KULDUVOST_GET_EVENT_RECORDS = 0x0100,
-    /* log 1, flags 1, count n 1, reserved 3, n handles of 2. Length not 6 + 2n: 0016h; log above 4: 0002h; Clear All (flag bit 0) with
-     * n not 0 or overflow count 0: 0002h; without it, handle i not that of the i-th oldest record: 000Eh. No reply. */
+    /* log 1, flags 1, count n 1, reserved 3, n handles of 2. Length not 6 + 2n: 0016h; a flag bit 1 to 7 set or a reserved byte not zero:
+     * 0002h; log above 4: 0002h; Clear All (flag bit 0) with n not 0 or overflow count 0: 0002h; without it, handle i not that of the
+     * i-th oldest record: 000Eh. No reply. */
     KULDUVOST_CLEAR_EVENT_RECORDS = 0x0101,
     /* No payload. Reply: a setting of 1 byte for each of the five logs. */
     KULDUVOST_GET_EVENT_INTERRUPT_POLICY = 0x0102,
-    /* a byte for each of logs 0 to 3, or 0 to 4. The interrupts of a log are enabled exactly if the low two bits of its byte are 1,
-     * otherwise disabled; four bytes leave log 4 as it was. All start disabled. A log that is enabled while it holds records raises
-     * nothing for them: its next vector comes when it has been emptied and a record is stored. No reply. */
+    /* a byte for each of logs 0 to 3, or 0 to 4; its low two bits are the mode, 0 or 1, and its other bits are free. A mode of 2 or 3 in any
+     * of them: 0002h, and no log's setting changes. The interrupts of a log are enabled where its mode is 1 and disabled where it is 0;
+     * four bytes leave log 4 as it was. All start disabled. A log that is enabled while it holds records raises nothing for them: its
+     * next vector comes when it has been emptied and a record is stored. No reply. */
     KULDUVOST_SET_EVENT_INTERRUPT_POLICY = 0x0103,
     /* No payload. Reply: the device time, 8. */
     KULDUVOST_GET_TIMESTAMP = 0x0300,

@@ -141,6 +141,9 @@ static const uint8_t clear_none[6] = {KULDUVOST_LOG_WARNING}, clear_oldest[8] = 
 static const uint8_t clear_eight[22] = {KULDUVOST_LOG_INFO, 0, 8, 0, 0, 0, 1, 0, 2, 0, 3, 0, 4, 0, 5, 0, 6, 0, 7, 0, 8, 0};
 static const uint8_t clear_all[6] = {KULDUVOST_LOG_FAILURE, 1}, clear_all_early[6] = {KULDUVOST_LOG_INFO, 1};
 static const uint8_t clear_second[8] = {KULDUVOST_LOG_INFO, 0, 1, 0, 0, 0, 2};
+/* as `clear_oldest` but for what is reserved, and a mode that is in the last byte (document 02, W-205) */
+static const uint8_t clear_flagged[8] = {KULDUVOST_LOG_INFO, 0x80, 1, 0, 0, 0, 1}, clear_reserved[8] = {KULDUVOST_LOG_INFO, 0, 1, 0, 0, 1, 1};
+static const uint8_t mode_two[5] = {0, 0, 0, 0, 2};
 #define EFFECTS 0x0d, 0xa9, 0xc0, 0xb5, 0xbf, 0x41, 0x4b, 0x78, 0x8f, 0x79, 0x96, 0xb1, 0x62, 0x3b, 0x3f, 0x17
 static const uint8_t whole_log[24] = {EFFECTS, 0, 0, 0, 0, 48}, log_past[24] = {EFFECTS, 1, 0, 0, 0, 48}, other_log[24] = {0};
 
@@ -177,6 +180,8 @@ static const struct row rows[] = {
     {"Clear Event Records, Clear All of 8", 0, 256, ASK(CLEAR_EVENT_RECORDS, clear_all, 6), .more_records = -8,
      .more_overflow = -1},
     {"Clear Event Records, refused: length", 0, 256, ASK(CLEAR_EVENT_RECORDS, clear_oldest, 7), BAD_LENGTH},
+    {"Clear Event Records, refused: flag bit 7", 0, 256, ASK(CLEAR_EVENT_RECORDS, clear_flagged, 8), BAD_INPUT},
+    {"Clear Event Records, refused: reserved byte", 0, 256, ASK(CLEAR_EVENT_RECORDS, clear_reserved, 8), BAD_INPUT},
     {"Clear Event Records, refused: log", 0, 256, ASK(CLEAR_EVENT_RECORDS, log_five, 6), BAD_INPUT},
     {"Clear Event Records, refused: Clear All", 0, 256, ASK(CLEAR_EVENT_RECORDS, clear_all_early, 6), BAD_INPUT},
     {"Clear Event Records, refused: handle", 0, 256, ASK(CLEAR_EVENT_RECORDS, clear_second, 8), REFUSED(INVALID_HANDLE)},
@@ -184,6 +189,7 @@ static const struct row rows[] = {
     {"Get Event Interrupt Policy, refused: length", 0, 256, ASK(GET_EVENT_INTERRUPT_POLICY, none, 1), BAD_LENGTH},
     {"Set Event Interrupt Policy", 0, 256, ASK(SET_EVENT_INTERRUPT_POLICY, policy, 5)},
     {"Set Event Interrupt Policy, refused: length", 0, 256, ASK(SET_EVENT_INTERRUPT_POLICY, policy, 3), BAD_LENGTH},
+    {"Set Event Interrupt Policy, refused: mode", 0, 256, ASK(SET_EVENT_INTERRUPT_POLICY, mode_two, 5), BAD_INPUT},
     {"Get Timestamp", 0, 256, ASK(GET_TIMESTAMP, none, 0), .values = {8}},
     {"Get Timestamp, refused: length", 0, 256, ASK(GET_TIMESTAMP, none, 1), BAD_LENGTH},
     {"Set Timestamp", 0, 256, ASK(SET_TIMESTAMP, timestamp, 8)},

@@ -27,10 +27,10 @@ use Rattle.mailbox.specs.Outcome.{Outcome}
 use Rattle.mailbox.specs.Commands.{admission}
 use Rattle.mailbox.specs.declared.clock.Clock.{Clock}
 use Rattle.mailbox.specs.Clock.{device-time}
-use Rattle.mailbox.specs.Policy.{set-policy}
+use Rattle.mailbox.specs.Policy.{known-modes, set-policy}
 use Rattle.mailbox.specs.EventCommands.{clear-event-records}
 use Rattle.mailbox.specs.PoisonCommands.{line-of, line-code, inject-poison, inject-adds, injection-record, clear-poison}
-use Rattle.mailbox.specs.Mailbox.{run-command, inject, outcome}
+use Rattle.mailbox.specs.Mailbox.{set-interrupt-policy, run-command, inject, outcome}
 use Rattle.mailbox.specs.DeviceCalls as Device
 use Rattle.mailbox.proofs.Laws.{line-inside, media-zero}
 use Rattle.wire.proofs.Laws.{and-parts, either}
@@ -242,12 +242,12 @@ module _ {P : LogState → Type 0} (lasting : Lasting P) where
 
     -- after a command
     run-leaves : (op : ℕ) (p : List ℕ) (time : ℕ) → Leaves (run-command s op p time)
-    unfolding run-command clear-event-records
+    unfolding run-command clear-event-records set-interrupt-policy
     run-leaves op p time =
         either Leaves (eqb op 0x0100) (stays _ refl)
         (either Leaves (eqb op 0x0101) (record { kept = logs-kept _ (clear-keeps lasting (s .logs) (h .logs) p) })
         (either Leaves (eqb op 0x0102) (stays _ refl)
-        (either Leaves (eqb op 0x0103) (record { kept = policy-kept p })
+        (either Leaves (eqb op 0x0103) (either Leaves (known-modes p) (record { kept = policy-kept p }) (stays _ refl))
         (either Leaves (eqb op 0x0300) (stays _ refl)
         (either Leaves (eqb op 0x0301) (record { kept = clock-kept _ })
         (either Leaves (eqb op 0x0400) (stays _ refl)

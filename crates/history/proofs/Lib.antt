@@ -15,3 +15,4 @@ pub mod Views
 pub mod SomeBuild
 pub mod Cases
 pub mod Interrupts
+pub mod Reserved

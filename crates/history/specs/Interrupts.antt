@@ -53,7 +53,7 @@ interrupt-cases =
     ∷ case (map (event-vector new-unit 0) five-logs) (replicate 5 0)
     ∷ case (map (event-vector (policy-set enabled-unit (replicate 5 0)) 0) five-logs) (replicate 5 0)
     -- enabled by the low two bits of each byte; four bytes leave log 4 as it was
-    ∷ case (map (event-vector (policy-set enabled-unit (0 ∷ 1 ∷ 2 ∷ 3 ∷ 5 ∷ [])) 0) five-logs) (0 ∷ 3 ∷ 0 ∷ 0 ∷ 2 ∷ [])
+    ∷ case (map (event-vector (policy-set enabled-unit (0 ∷ 1 ∷ 4 ∷ 0xfc ∷ 5 ∷ [])) 0) five-logs) (0 ∷ 3 ∷ 0 ∷ 0 ∷ 2 ∷ [])
     ∷ case (map (event-vector (policy-set new-unit (replicate 4 1)) 0) five-logs) (2 ∷ 3 ∷ 4 ∷ 5 ∷ 0 ∷ [])
     -- a refused report (log 5; 127 bytes): its number, and none
     ∷ case (Device.event-report enabled-unit 0 5 (replicate 128 0) .code ∷ Device.event-report enabled-unit 0 5 (replicate 128 0) .vector ∷ []) (2 ∷ 0 ∷ [])

@@ -9,3 +9,4 @@ pub mod Drain
 pub mod Builds
 pub mod Cases
 pub mod Interrupts
+pub mod Reserved

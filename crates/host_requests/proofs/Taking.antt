@@ -17,8 +17,8 @@ use Rattle.wire.proofs.Splice.{field-front, field-past, number-read, part-front
 use Rattle.events.specs.Log.{LogState, log-at}
 use Rattle.events.specs.Get as Get
 use Rattle.events.specs.Clear as Clear
-use Rattle.events.specs.Clear.{ClearedState, all-flag, count-field, handles-at, clear-payload, clear-code, clear-log-code, clear-size, clear-log, clear-taken}
-use Rattle.events.proofs.Laws.{payload-length, payload-log, payload-flags, payload-count, payload-handles}
+use Rattle.events.specs.Clear.{ClearedState, all-flag, other-flags, count-field, handles-at, clear-payload, clear-code, clear-log-code, clear-size, clear-log, clear-taken}
+use Rattle.events.proofs.Laws.{payload-length, payload-log, payload-flags, payload-count, payload-reserved, payload-handles}
 use Rattle.mailbox.specs.Numbers.{mailbox-size, event-records}
 use Rattle.mailbox.specs.State.{DeviceState, lines-of, with-logs, with-poison}
 use Rattle.mailbox.specs.Outcome.{reads, replied, no-reply, changes, refused}
@@ -34,7 +34,7 @@ use Rattle.poison.specs.State.{PoisonState, covers}
 use Rattle.poison.specs.Inject.{with-entry}
 use Rattle.poison.specs.Clear.{after-clear}
 use Rattle.mailbox.specs.DeviceCalls.{EventOutcome, event-report}
-use Rattle.mailbox.specs.Mailbox.{changes-list, reports, inject, run-command, outcome}
+use Rattle.mailbox.specs.Mailbox.{set-interrupt-policy, changes-list, reports, inject, run-command, outcome}
 use Rattle.mailbox.proofs.Laws.{admitted-runs, clear-events-admitted}
 use Rattle.wire.specs.declared.done.Done.{Done}
 use Rattle.wire.specs.Done.{Written, Writes, written}
@@ -93,7 +93,7 @@ set-time-taken value small =
 
 -- ---- settings
 settings-taken : (settings : List ℕ) → countable (Q.set-event-interrupt-policy settings) ≡ true → Taken (Q.set-event-interrupt-policy settings)
-unfolding opcode payload admission commands run-command meant countable
+unfolding opcode payload admission commands run-command set-interrupt-policy meant countable
 settings-taken settings c =
     taking (Q.set-event-interrupt-policy settings) (λ room h. go room h (ℕ-discrete (length settings) 4)) refl (λ d time. refl)
   where
@@ -190,23 +190,26 @@ module _ (log flags : ℕ) (hs : List ℕ) (hl : log < 256) (hf : flags < 256) (
   unfolding clear-log clear-size
   log-meant s = rw (code-meant s, payload-flags log flags hs hf, counted)
 
-  -- the checks before it leave the one of the log's number
-  checks-meant : clear-code built ≡ need (ltb log 5) invalid-input success
+  -- the checks before it leave that of the flags and that of the log's number
+  checks-meant : clear-code built ≡ need (eqb (other-flags flags) 0) invalid-input (need (ltb log 5) invalid-input success)
   unfolding clear-code
   checks-meant =
       let e : length built ≡ 6 + 2 * count-field built = payload-length log flags hs ∙ ap (λ (n : ℕ). 6 + 2 * n) (sym counted) in
-      rw (eq-eqb (length built) (6 + 2 * count-field built) e, payload-log log flags hs hl)
+      rw (eq-eqb (length built) (6 + 2 * count-field built) e, payload-reserved log flags hs hf, payload-log log flags hs hl)
 
-  by-number : (d : DeviceState) (b : Bool) (c : ClearedState)
-      → changes (cond (eqb (need b invalid-input success) success) (clear-taken (d .logs) log c) (record { code = need b invalid-input success; logs = d .logs }) .code)
-      (with-logs d (cond (eqb (need b invalid-input success) success) (clear-taken (d .logs) log c) (record { code = need b invalid-input success; logs = d .logs }) .logs))
-      ≡ need b (refused invalid-input d) (cleared d log c)
-  by-number d true c = refl
-  by-number d false c = refl
+  by-number : (d : DeviceState) (a b : Bool) (c : ClearedState) (n : ℕ) → n ≡ need a invalid-input (need b invalid-input success)
+      → changes (cond (eqb n success) (clear-taken (d .logs) log c) (record { code = n; logs = d .logs }) .code)
+      (with-logs d (cond (eqb n success) (clear-taken (d .logs) log c) (record { code = n; logs = d .logs }) .logs))
+      ≡ need a (refused invalid-input d) (need b (refused invalid-input d) (cleared d log c))
+  by-number d true true c n e = rw e
+  by-number d true false c n e = rw e
+  by-number d false b c n e = rw e
 
   events-meant : (d : DeviceState) (time : ℕ) → run-command d 0x0101 built time ≡ meant (Q.clear-event-records log flags hs) d time
   unfolding run-command meant Events.clear-event-records Clear.clear-event-records
-  events-meant d time = rw (checks-meant, payload-log log flags hs hl, log-meant (log-at (d .logs) log)) (by-number d (ltb log 5) (clearing (log-at (d .logs) log) (all-flag flags) hs))
+  events-meant d time =
+      rw (payload-log log flags hs hl, log-meant (log-at (d .logs) log))
+      (by-number d (eqb (other-flags flags) 0) (ltb log 5) (clearing (log-at (d .logs) log) (all-flag flags) hs) (clear-code built) checks-meant)
 
   events-taken : Taken (Q.clear-event-records log flags hs)
   unfolding opcode payload

@@ -12,14 +12,14 @@ use Rattle.poison.specs.Inject.{injects, adds, after-inject}
 use Rattle.poison.specs.Clear.{after-clear}
 use Rattle.events.specs.Log.{LogState, log-at}
 use Rattle.events.specs.Get.{reply-bytes}
-use Rattle.events.specs.Clear.{ClearedState, all-flag, mismatch, mismatch-code, without, clear-taken}
+use Rattle.events.specs.Clear.{ClearedState, all-flag, other-flags, mismatch, mismatch-code, without, clear-taken}
 use Rattle.events.specs.Clear.{log-field, count-field, handles-at}
 use Rattle.mailbox.specs.Numbers.{mailbox-size, event-records}
 use Rattle.mailbox.specs.State.{DeviceState, lines-of, with-clock, with-policy, with-logs, with-poison}
 use Rattle.mailbox.specs.Outcome.{Reply, Outcome, replied, no-reply, reads, changes, refused}
 use Rattle.mailbox.specs.Clock.{device-time}
 use Rattle.mailbox.specs.Clock as Clock
-use Rattle.mailbox.specs.Policy.{get-policy, set-policy}
+use Rattle.mailbox.specs.Policy.{get-policy, known-modes, set-policy}
 use Rattle.mailbox.specs.EffectsLog.{effects-log, effects-log-id, effects-log-size, log-offset, log-length}
 use Rattle.mailbox.specs.EffectsLog as Logs
 use Rattle.mailbox.specs.Identity as Identity
@@ -81,13 +81,16 @@ poison-cleared d address time =
     need (eqb (line-code (lines-of d) address) success) (refused (line-code (lines-of d) address) d)
     (changes success (with-poison d (after-clear (d .poison) (line-of address) (device-time (d .clock) time))))
 
--- ---- what a request means on a device at the caller's time
+-- ---- what a request means on a device at the caller's time. Of Clear Event Records a flag bit 1 to 7 set is 0002h, and of Set Event Interrupt Policy a mode of 2 or 3 (document
+-- 02, W-205); a request has no field for the reserved bytes.
 unfoldable pub meant : Request → DeviceState → ℕ → Outcome
 meant (get-event-records log) d time = reads d (records-of d log)
 meant (clear-event-records log flags handles) d time =
-    need (ltb log 5) (refused invalid-input d) (cleared d log (clearing (log-at (d .logs) log) (all-flag flags) handles))
+    need (eqb (other-flags flags) 0) (refused invalid-input d)
+    (need (ltb log 5) (refused invalid-input d) (cleared d log (clearing (log-at (d .logs) log) (all-flag flags) handles)))
 meant get-event-interrupt-policy d time = reads d (get-policy (d .policy))
-meant (set-event-interrupt-policy settings) d time = changes success (with-policy d (set-policy (d .policy) settings))
+meant (set-event-interrupt-policy settings) d time =
+    need (known-modes settings) (refused invalid-input d) (changes success (with-policy d (set-policy (d .policy) settings)))
 meant get-timestamp d time = reads d (Clock.get-timestamp (d .clock) time)
 meant (set-timestamp value) d time = changes success (with-clock d (record { set = true; value = value; since = time }))
 meant get-supported-logs d time = reads d Logs.get-supported-logs

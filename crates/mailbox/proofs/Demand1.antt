@@ -31,12 +31,12 @@ use Rattle.mailbox.specs.Numbers.{mailbox-size, most-units}
 use Rattle.mailbox.specs.Commands.{admission}
 use Rattle.mailbox.specs.Outcome.{Reply, replied, no-reply, Outcome, reads, changes}
 use Rattle.mailbox.specs.Clock.{device-time, get-timestamp}
-use Rattle.mailbox.specs.Policy.{get-policy}
+use Rattle.mailbox.specs.Policy.{get-policy, known-modes}
 use Rattle.mailbox.specs.EffectsLog.{effects-log-size, effects-log-id, log-offset, log-length, get-supported-logs, get-log}
 use Rattle.mailbox.specs.Identity.{identify}
 use Rattle.mailbox.specs.EventCommands.{get-event-records, clear-event-records}
 use Rattle.mailbox.specs.PoisonCommands.{ListChange, line-of, line-code, range-code, get-poison-list, inject-poison, inject-adds, clear-poison}
-use Rattle.mailbox.specs.Mailbox.{run-command, inject, outcome, changes-list}
+use Rattle.mailbox.specs.Mailbox.{run-command, set-interrupt-policy, inject, outcome, changes-list}
 use Rattle.mailbox.specs.DeviceCalls.{new-device, MakeOutcome, make, event-report, media-code, MediaOutcome, media-report, LineOutcome, line-test}
 use Rattle.mailbox.proofs.VectorLaws.{raised-later}
 
@@ -82,6 +82,10 @@ silent-refuses d k = record { refuses = λ h. (k .silent h, refl, refl) }
 success-refuses : (d e : DeviceState) → Refuses d (changes 0 e)
 success-refuses d e = record { refuses = λ h. absurd (h refl) }
 
+policy-refuses : (d : DeviceState) (p : List ℕ) → Refuses d (set-interrupt-policy d p)
+unfolding set-interrupt-policy
+policy-refuses d p = either (Refuses d) (known-modes p) (success-refuses d _) (record { refuses = λ h. (refl, refl, refl) })
+
 events-refuse : (d : DeviceState) (p : List ℕ) → Refuses d (clear-event-records d p)
 unfolding clear-event-records
 events-refuse d p = record { refuses = λ h. (refl, ap (with-logs d) (refused-clear-changes-nothing (d .logs) p h), refl) }
@@ -113,7 +117,7 @@ commands-refuse d op p time =
     either (Refuses d) (eqb op 0x0100) (silent-refuses d (events-silent _ p))
     (either (Refuses d) (eqb op 0x0101) (events-refuse d p)
     (either (Refuses d) (eqb op 0x0102) (silent-refuses d (success-silent _))
-    (either (Refuses d) (eqb op 0x0103) (success-refuses d _)
+    (either (Refuses d) (eqb op 0x0103) (policy-refuses d p)
     (either (Refuses d) (eqb op 0x0300) (silent-refuses d (success-silent _))
     (either (Refuses d) (eqb op 0x0301) (success-refuses d _)
     (either (Refuses d) (eqb op 0x0400) (silent-refuses d (success-silent _))

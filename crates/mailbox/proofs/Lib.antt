@@ -15,5 +15,6 @@ pub mod DeviceAnswers
 pub mod PartAnswers
 pub mod Demand1
 pub mod Raising
+pub mod Reserved
 pub mod Computing
 pub mod Laws
