@@ -3,8 +3,9 @@
 
 use reference::case::answer::answer;
 use reference::compare::{find_faults, run, without_host, Plan, Subject};
+use reference::device::events::EventLog;
 use reference::device::numbers::opcode;
-use reference::device::Config;
+use reference::device::{Config, Device};
 use reference::format::Format::{self, Bench, Probe};
 use reference::generate::builder::clear_payload;
 use reference::generate::{profile_named, profile_of, profiles, DEFAULT_SEEDS};
@@ -73,11 +74,11 @@ fn profiles_say_how_many_streams_they_have() {
     }
 }
 
-/// At least as many seeds for each as the default of 210 gave before W-202 and W-204
-/// brought their profiles: 8 or 9 of bench, 6 or 7 of probe.
+/// At least as many seeds for each as the default of 276 gave before W-205 brought its
+/// profiles: 9 or 10 of bench, 6 or 7 of probe.
 #[test]
 fn every_profile_has_its_seeds() {
-    for (format, least) in [(Bench, 9), (Probe, 6)] {
+    for (format, least) in [(Bench, 10), (Probe, 7)] {
         let names: Vec<&str> = DEFAULT_SEEDS
             .map(|seed| profile_of(format, seed).name)
             .collect();
@@ -425,6 +426,16 @@ fn last_column(line: &[u8]) -> u64 {
     line.rsplit(' ').next().unwrap().parse().unwrap()
 }
 
+/// How a log stands at a call.
+fn state(log: &EventLog) -> &'static str {
+    match log.overflow_count() {
+        _ if log.is_empty() => "empty",
+        _ if !log.is_full() => "in part",
+        0 => "full",
+        _ => "overflown",
+    }
+}
+
 /// The situations of W-204 in the streams of the default seeds, with how often each is
 /// reached. The streams are run by the probe's model, for bench too, since its lines tell
 /// the vector.
@@ -445,12 +456,7 @@ fn situations(format: Format) -> std::collections::BTreeMap<String, usize> {
             model.step(&record);
             let vector = last_column(model.line.as_bytes());
             let mut count = |what: String| *found.entry(what).or_insert(0) += 1;
-            let state = |log: usize| match (before.log(log), before.log(log).overflow_count()) {
-                (log, _) if log.is_empty() => "empty",
-                (log, _) if !log.is_full() => "in part",
-                (_, 0) => "full",
-                _ => "overflown",
-            };
+            let state = |log: usize| state(before.log(log));
             match &record {
                 Record::Event { log, .. } if *log < 5 => {
                     let log = usize::from(*log);
@@ -547,6 +553,152 @@ fn default_seeds_reach_vectors_and_injections() {
             ("inject, then read", 300),
         ] {
             assert!(found[what] >= least, "{format:?}: {what}: {}", found[what]);
+        }
+    }
+}
+
+/// The reserved place that is set in a Clear Event Records of six bytes or more: a flag
+/// bit or a byte, or that there are several; none if all are zero.
+fn reserved_place(payload: &[u8]) -> Option<String> {
+    let bits = (1..8).filter(|bit| payload[1] >> bit & 1 == 1);
+    let bytes = (3..6).filter(|place| payload[*place] != 0);
+    let mut set: Vec<String> = bits.map(|bit| format!("bit {bit}")).collect();
+    set.extend(bytes.map(|place| format!("byte {place}")));
+    match set.len() {
+        0 | 1 => set.pop(),
+        _ => Some("several".to_string()),
+    }
+}
+
+/// The return number of a command on a copy of the device.
+fn number_of(device: &Device, code: u16, payload: &[u8]) -> u16 {
+    let answer = device.clone().run(code, payload, 0);
+    answer.err().map_or(0, |refusal| refusal.number())
+}
+
+/// The situations of W-205 in the streams of the default seeds, with how often each is
+/// reached. A Clear is said with the number that it would get without what is reserved.
+fn reserved_situations(format: Format) -> std::collections::BTreeMap<String, usize> {
+    let mut found = std::collections::BTreeMap::new();
+    let names = ["reserved", "modes", "clear-all", "policy", "vectors"];
+    for seed in DEFAULT_SEEDS {
+        let profile = profile_of(format, seed);
+        if !names.contains(&profile.name) {
+            continue;
+        }
+        let stream = profile.stream_of(format, seed, 0, None);
+        let mut model = reference::probe::Probe::new(Config::default());
+        for (_, record) in format.records(&stream) {
+            let record = record.unwrap();
+            let before = model.device().clone();
+            model.step(&record);
+            let mut count = |what: String| *found.entry(what).or_insert(0) += 1;
+            let Record::Command {
+                opcode: code,
+                room: 2048..,
+                payload,
+                ..
+            } = &record
+            else {
+                continue;
+            };
+            match (*code, payload.len()) {
+                (opcode::CLEAR_EVENT_RECORDS, 6..) => {
+                    let zeros = [
+                        &[payload[0], payload[1] & 1, payload[2], 0, 0, 0],
+                        &payload[6..],
+                    ];
+                    let number = number_of(&before, *code, &zeros.concat());
+                    let all = match payload[1] & 1 {
+                        0 => "by handles",
+                        _ => "all",
+                    };
+                    let state = match payload[0] {
+                        log @ 0..=4 => state(before.log(log.into())),
+                        _ => "not there",
+                    };
+                    match reserved_place(payload) {
+                        Some(place) => {
+                            count(format!("clear {all}, {place}, else {number}"));
+                            count(format!("clear {all}, log {state}, else {number}"));
+                        }
+                        None => count(format!("{}: clear {all}, {number}", profile.name)),
+                    }
+                }
+                (opcode::SET_POLICY, length) => {
+                    let bad = |setting: &&u8| **setting & 3 >= 2;
+                    let number = number_of(&before, *code, payload);
+                    match payload.iter().filter(bad).count() {
+                        0 => count(format!("{}: set, {number}", profile.name)),
+                        1 => {
+                            let place = payload.iter().position(|setting| bad(&setting)).unwrap();
+                            let mode = payload[place] & 3;
+                            count(format!("set {length}, byte {place} mode {mode}, {number}"));
+                        }
+                        _ => count(format!("set {length}, several, {number}")),
+                    }
+                }
+                _ => {}
+            }
+        }
+    }
+    found
+}
+
+/// Document 02, W-205: every reserved place alone, beside every other answer that a clear
+/// can get, in logs of every state; modes 2 and 3 at every place of four and five bytes; and
+/// payloads that are taken, often.
+#[test]
+fn default_seeds_reach_reserved_places_and_modes() {
+    for format in [Bench, Probe] {
+        let found = reserved_situations(format);
+        let mut wanted = Vec::new();
+        let bits = (1..8).map(|bit| format!("bit {bit}"));
+        let bytes = (3..6).map(|place| format!("byte {place}"));
+        for place in bits.chain(bytes).chain(["several".to_string()]) {
+            for number in [0, 2, 14, 22] {
+                wanted.push(format!("clear by handles, {place}, else {number}"));
+            }
+            for number in [0, 2, 22] {
+                wanted.push(format!("clear all, {place}, else {number}"));
+            }
+        }
+        for state in ["empty", "in part", "full", "overflown"] {
+            for number in [0, 14, 22] {
+                wanted.push(format!("clear by handles, log {state}, else {number}"));
+            }
+            wanted.push(format!("clear all, log {state}, else 2"));
+        }
+        wanted.push("clear by handles, log not there, else 2".to_string());
+        wanted.push("clear all, log not there, else 2".to_string());
+        wanted.push("clear all, log overflown, else 0".to_string());
+        for length in [4, 5] {
+            for place in 0..length {
+                for mode in [2, 3] {
+                    wanted.push(format!("set {length}, byte {place} mode {mode}, 2"));
+                }
+            }
+            wanted.push(format!("set {length}, several, 2"));
+        }
+        for length in [3, 6] {
+            wanted.push(format!("set {length}, several, 22"));
+        }
+        for what in &wanted {
+            assert!(found.contains_key(what), "{format:?}: {what} in {found:#?}");
+        }
+        // What is taken, often.
+        for (what, least) in [
+            ("reserved: clear by handles, 0", 150),
+            ("reserved: clear all, 0", 20),
+            ("clear-all: clear all, 0", 80),
+            ("vectors: clear by handles, 0", 300),
+            ("vectors: clear all, 0", 50),
+            ("vectors: set, 0", 300),
+            ("policy: set, 0", 800),
+            ("modes: set, 0", 500),
+        ] {
+            let times = found.get(what).copied().unwrap_or(0);
+            assert!(times >= least, "{format:?}: {what}: {times}");
         }
     }
 }

@@ -124,7 +124,7 @@ fn clear_all_needs_overflow_and_no_handles() {
     // n = 0 without Clear All: no record went, so the overflow stays.
     assert_eq!(clear(&mut device, 2, 0, &[]), SUCCESS);
     assert_eq!(device.log(2).overflow_count(), 1);
-    assert_eq!(clear(&mut device, 2, 0xff, &[]), SUCCESS);
+    assert_eq!(clear(&mut device, 2, 1, &[]), SUCCESS);
     assert_eq!(get_events(&mut device, 2), vec![0; 32]);
     events(&mut device, 2, 1);
     assert_eq!(device.log(2).handles(), [9]);
@@ -141,7 +141,7 @@ fn clear_checks_length_then_log_then_handles() {
     assert_eq!(ask(&[9, 1, 0, 0, 0, 0, 1, 0]), length);
     assert_eq!(ask(&[5, 0, 1, 0, 0, 0, 1, 0]), Err(Refusal::InvalidInput));
     assert_eq!(ask(&[0, 0, 1, 0, 0, 0, 1, 0]), Err(Refusal::InvalidHandle));
-    assert_eq!(ask(&[0, 0xfe, 0, 9, 9, 9]), SUCCESS);
+    assert_eq!(ask(&[0, 0, 0, 0, 0, 0]), SUCCESS);
 }
 
 #[test]
@@ -319,8 +319,8 @@ fn policy_settings() {
         (answer, get)
     };
     assert_eq!(set(&[1; 5]), (SUCCESS, vec![0x21, 0x31, 0x41, 0x51, 0x01]));
-    assert_eq!(set(&[0, 2, 3, 0xfd]), (SUCCESS, vec![0, 0, 0, 0x51, 0x01]));
-    assert_eq!(set(&[0, 2, 3, 4, 3]), (SUCCESS, vec![0; 5]));
+    assert_eq!(set(&[0, 4, 8, 0xfd]), (SUCCESS, vec![0, 0, 0, 0x51, 0x01]));
+    assert_eq!(set(&[0, 4, 8, 0xfc, 16]), (SUCCESS, vec![0; 5]));
     assert_eq!(set(&[5, 9, 0, 0]), (SUCCESS, vec![0x21, 0x31, 0, 0, 0]));
     let refused = Err(Refusal::InvalidPayloadLength);
     assert_eq!(set(&[1; 3]).0, refused);

@@ -108,8 +108,9 @@ fn a_log_that_is_not_enabled_carries_none() {
             assert_eq!(stored(&mut device, log), None);
         }
     }
-    // "Set enables a log exactly if the low two bits of its byte are 1".
-    for setting in 0..=255u8 {
+    // "Set enables a log exactly if the low two bits of its byte are 1"; with 2 and 3 it
+    // is refused (W-205).
+    for setting in (0..=255u8).filter(|setting| setting & 3 < 2) {
         let mut device = with_policy(&[setting; 5]);
         for (log, vector) in (0..5u8).zip(VECTORS) {
             let on = setting & 3 == 1;

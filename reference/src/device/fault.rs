@@ -42,6 +42,35 @@ pub enum Fault {
     InjectEventAddressIn32Bits,
     InjectEventWithoutLength,
     InjectEventAtCallersTime,
+    /// A flag bit of Clear Event Records, by its number.
+    ClearFlagIgnored(u8),
+    ClearFlagsIgnored,
+    ClearFlagsIgnoredWithClearAll,
+    ClearFlagsIgnoredWithoutClearAll,
+    ClearAllRefused,
+    /// A reserved byte of Clear Event Records, by its place in the payload.
+    ClearByteIgnored(usize),
+    ClearBytesIgnored,
+    ClearBytesIgnoredWithClearAll,
+    ClearBytesOver127Ignored,
+    ClearBytesRefusedTogether,
+    ClearReservedIgnoredWithoutHandles,
+    ClearReservedBeforeLength,
+    ClearReservedAfterHandles,
+    ClearReservedClears,
+    ClearReservedIs16h,
+    /// A mode of Set Event Interrupt Policy: 2 or 3.
+    ModeTaken(u8),
+    ModesTaken,
+    /// A byte of Set Event Interrupt Policy, by its place in the payload.
+    ModeIgnoredOfByte(usize),
+    ModeOfFirstByteOnly,
+    ModeBeforeLength,
+    ModeAfterSettingsBefore,
+    ModeAfterAllSettings,
+    ModeDisablesItsLog,
+    ModeIs16h,
+    SettingBitsReserved,
     BytePastReply,
     BufferWrittenOnRefusal,
     RoomAfterOpcode,
@@ -79,10 +108,15 @@ pub enum Fault {
     RefusedEventHasVector,
     InjectVectorNotTold,
     InjectVectorOfCovered,
+    RoomAfterReserved,
+    ReservedBeforePayloadLimit,
     HostExactRoomRefused,
     HostWritesWhatFits,
     HandlesOver255Taken,
     HandlesBeforeRoom,
+    RequestReservedJudged,
+    RequestFlagsMasked,
+    RequestReservedNotWritten,
     AddressBitsIgnored,
     RecordZerosIgnored,
     ByteAfterFlagsIgnored,
@@ -309,6 +343,196 @@ pub const FAULTS: &[FaultLine] = &[
         "inject-event-at-callers-time",
         "an injection's event has the caller's time, not the device time",
     ),
+    line(
+        Fault::ClearFlagIgnored(1),
+        "clear-flag-1-ignored",
+        "flag bit 1 of Clear Event Records is not looked at",
+    ),
+    line(
+        Fault::ClearFlagIgnored(2),
+        "clear-flag-2-ignored",
+        "flag bit 2 of Clear Event Records is not looked at",
+    ),
+    line(
+        Fault::ClearFlagIgnored(3),
+        "clear-flag-3-ignored",
+        "flag bit 3 of Clear Event Records is not looked at",
+    ),
+    line(
+        Fault::ClearFlagIgnored(4),
+        "clear-flag-4-ignored",
+        "flag bit 4 of Clear Event Records is not looked at",
+    ),
+    line(
+        Fault::ClearFlagIgnored(5),
+        "clear-flag-5-ignored",
+        "flag bit 5 of Clear Event Records is not looked at",
+    ),
+    line(
+        Fault::ClearFlagIgnored(6),
+        "clear-flag-6-ignored",
+        "flag bit 6 of Clear Event Records is not looked at",
+    ),
+    line(
+        Fault::ClearFlagIgnored(7),
+        "clear-flag-7-ignored",
+        "flag bit 7 of Clear Event Records is not looked at",
+    ),
+    line(
+        Fault::ClearFlagsIgnored,
+        "clear-flags-ignored",
+        "flag bits 1 to 7 of Clear Event Records are not looked at, as before W-205",
+    ),
+    line(
+        Fault::ClearFlagsIgnoredWithClearAll,
+        "clear-flags-ignored-with-clear-all",
+        "flag bits 1 to 7 are not looked at where Clear All is set",
+    ),
+    line(
+        Fault::ClearFlagsIgnoredWithoutClearAll,
+        "clear-flags-ignored-without-clear-all",
+        "flag bits 1 to 7 are looked at only where Clear All is set",
+    ),
+    line(
+        Fault::ClearAllRefused,
+        "clear-all-refused",
+        "Clear All is refused as a reserved flag bit",
+    ),
+    line(
+        Fault::ClearByteIgnored(3),
+        "clear-byte-3-ignored",
+        "reserved byte 3 of Clear Event Records is not looked at",
+    ),
+    line(
+        Fault::ClearByteIgnored(4),
+        "clear-byte-4-ignored",
+        "reserved byte 4 of Clear Event Records is not looked at",
+    ),
+    line(
+        Fault::ClearByteIgnored(5),
+        "clear-byte-5-ignored",
+        "reserved byte 5 of Clear Event Records is not looked at",
+    ),
+    line(
+        Fault::ClearBytesIgnored,
+        "clear-bytes-ignored",
+        "the reserved bytes of Clear Event Records are not looked at, as before W-205",
+    ),
+    line(
+        Fault::ClearBytesIgnoredWithClearAll,
+        "clear-bytes-ignored-with-clear-all",
+        "the reserved bytes are not looked at where Clear All is set",
+    ),
+    line(
+        Fault::ClearBytesOver127Ignored,
+        "clear-bytes-over-127-ignored",
+        "a reserved byte over 127 is not looked at",
+    ),
+    line(
+        Fault::ClearBytesRefusedTogether,
+        "clear-bytes-refused-together",
+        "the reserved bytes are refused only if none of the three is zero",
+    ),
+    line(
+        Fault::ClearReservedIgnoredWithoutHandles,
+        "clear-reserved-ignored-without-handles",
+        "flag bits 1 to 7 and reserved bytes are looked at only where n is not 0",
+    ),
+    line(
+        Fault::ClearReservedBeforeLength,
+        "clear-reserved-before-length",
+        "Clear Event Records gives 0002h for reserved places before 0016h for 6 + 2n",
+    ),
+    line(
+        Fault::ClearReservedAfterHandles,
+        "clear-reserved-after-handles",
+        "Clear Event Records gives 000Eh before 0002h for reserved places",
+    ),
+    line(
+        Fault::ClearReservedClears,
+        "clear-reserved-clears",
+        "a Clear that is refused for reserved places takes the records that it names",
+    ),
+    line(
+        Fault::ClearReservedIs16h,
+        "clear-reserved-is-16h",
+        "Clear Event Records gives 0016h for reserved places",
+    ),
+    line(
+        Fault::ModeTaken(2),
+        "mode-2-taken",
+        "Set Event Interrupt Policy takes mode 2 and disables the log",
+    ),
+    line(
+        Fault::ModeTaken(3),
+        "mode-3-taken",
+        "Set Event Interrupt Policy takes mode 3 and disables the log",
+    ),
+    line(
+        Fault::ModesTaken,
+        "modes-taken",
+        "Set Event Interrupt Policy takes modes 2 and 3, as before W-205",
+    ),
+    line(
+        Fault::ModeIgnoredOfByte(0),
+        "mode-ignored-of-byte-0",
+        "the mode of policy byte 0 is not looked at",
+    ),
+    line(
+        Fault::ModeIgnoredOfByte(1),
+        "mode-ignored-of-byte-1",
+        "the mode of policy byte 1 is not looked at",
+    ),
+    line(
+        Fault::ModeIgnoredOfByte(2),
+        "mode-ignored-of-byte-2",
+        "the mode of policy byte 2 is not looked at",
+    ),
+    line(
+        Fault::ModeIgnoredOfByte(3),
+        "mode-ignored-of-byte-3",
+        "the mode of policy byte 3 is not looked at",
+    ),
+    line(
+        Fault::ModeIgnoredOfByte(4),
+        "mode-ignored-of-byte-4",
+        "the mode of policy byte 4 is not looked at",
+    ),
+    line(
+        Fault::ModeOfFirstByteOnly,
+        "mode-of-first-byte-only",
+        "the mode of the first policy byte alone is looked at",
+    ),
+    line(
+        Fault::ModeBeforeLength,
+        "mode-before-length",
+        "Set Event Interrupt Policy gives 0002h for a mode before 0016h",
+    ),
+    line(
+        Fault::ModeAfterSettingsBefore,
+        "mode-after-settings-before",
+        "a refused Set sets the logs before the one with the mode",
+    ),
+    line(
+        Fault::ModeAfterAllSettings,
+        "mode-after-all-settings",
+        "a Set that is refused for a mode sets all logs given",
+    ),
+    line(
+        Fault::ModeDisablesItsLog,
+        "mode-disables-its-log",
+        "a Set that is refused for a mode disables the log with it",
+    ),
+    line(
+        Fault::ModeIs16h,
+        "mode-is-16h",
+        "Set Event Interrupt Policy gives 0016h for a mode",
+    ),
+    line(
+        Fault::SettingBitsReserved,
+        "setting-bits-reserved",
+        "bits 2 to 7 of a policy byte are refused too",
+    ),
 ];
 
 /// The planted faults that probe alone can see: those about the lent buffer,
@@ -499,6 +723,16 @@ pub const PROBE_FAULTS: &[FaultLine] = &[
         "inject-vector-of-covered",
         "an injection of a covered line carries the vector while log 0 is empty",
     ),
+    line(
+        Fault::RoomAfterReserved,
+        "room-after-reserved",
+        "0002h for a reserved place or a mode is given before 0100h",
+    ),
+    line(
+        Fault::ReservedBeforePayloadLimit,
+        "reserved-before-payload-limit",
+        "0002h for a reserved place or a mode is given before 0016h for a payload over 2,048 bytes",
+    ),
 ];
 
 /// The planted faults of the host's side (W-202), which probe alone can see, in the
@@ -523,6 +757,21 @@ pub const HOST_FAULTS: &[FaultLine] = &[
         Fault::HandlesBeforeRoom,
         "handles-before-room",
         "0016h for over 255 handles is given before 0100h",
+    ),
+    line(
+        Fault::RequestReservedJudged,
+        "request-reserved-judged",
+        "0002h is given for a request with a reserved flag bit or a mode of 2 or 3",
+    ),
+    line(
+        Fault::RequestFlagsMasked,
+        "request-flags-masked",
+        "flag bits 1 to 7 of a Clear Event Records are built as 0",
+    ),
+    line(
+        Fault::RequestReservedNotWritten,
+        "request-reserved-not-written",
+        "the reserved bytes of a Clear Event Records built are those of the room",
     ),
     line(
         Fault::AddressBitsIgnored,

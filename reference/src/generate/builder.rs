@@ -1,6 +1,7 @@
 //! The stream under construction. It runs the model beside the stream, so that
 //! a profile can choose handles and lines by the state they will meet.
 
+use super::reserved::spoil_clear;
 use crate::device::numbers::{opcode, MAILBOX, RECORD};
 use crate::device::poison::Entry;
 use crate::device::{Config, Device};
@@ -238,9 +239,13 @@ impl Builder {
 
     /// Clear Event Records with these handles, well formed.
     pub fn clear_events(&mut self, log: u8, flags: u8, handles: &[u16]) {
-        let mut payload = clear_payload(log, flags, handles);
-        if self.random.one_in(4) {
-            payload[3..6].copy_from_slice(&self.random.bytes(3));
+        let payload = clear_payload(log, flags, handles);
+        // First at times with something reserved set: refused, and the device is as it
+        // was (W-205).
+        if self.random.one_in(16) {
+            let mut spoilt = payload.clone();
+            spoil_clear(self, &mut spoilt);
+            self.command(opcode::CLEAR_EVENT_RECORDS, spoilt);
         }
         self.command(opcode::CLEAR_EVENT_RECORDS, payload);
     }

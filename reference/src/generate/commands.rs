@@ -2,6 +2,7 @@
 
 use super::builder::{clear_payload, Builder};
 use super::events::one_clear;
+use super::reserved::{some_settings, spoil_clear};
 use crate::device::numbers::opcode;
 use crate::device::EFFECTS_IDENTIFIER;
 use crate::probe::record::Record;
@@ -13,11 +14,15 @@ pub fn plausible_payload(b: &mut Builder, code: u16) -> Vec<u8> {
         opcode::GET_EVENT_RECORDS => vec![b.random.below(6) as u8],
         opcode::CLEAR_EVENT_RECORDS => {
             let log = b.random.below(5) as u8;
-            clear_payload(log, 0, &b.device().log(log.into()).handles())
+            let mut payload = clear_payload(log, 0, &b.device().log(log.into()).handles());
+            if b.random.one_in(8) {
+                spoil_clear(b, &mut payload);
+            }
+            payload
         }
         opcode::SET_POLICY => {
             let length = b.random.pick(&[4, 5]);
-            b.random.bytes(length)
+            some_settings(b, length)
         }
         opcode::SET_TIMESTAMP => b.random.bytes(8),
         opcode::GET_LOG => get_log_payload(0, 16),
@@ -109,20 +114,14 @@ pub fn unknown_opcodes(b: &mut Builder) {
     b.show();
 }
 
-/// Policy bytes of every mode, four and five of them.
+/// Policy bytes of every value that is taken, four and five of them, and some that are
+/// refused.
 pub fn policy(b: &mut Builder) {
     b.any_device();
     b.command(opcode::GET_POLICY, vec![]);
     while b.more() {
         let length = b.random.pick(&[4, 5, 5, 4, 3, 6, 0]);
-        let mut payload = b.random.bytes(length);
-        let keep = b.random.pick(&[0x03, 0xff, 0xf3, 0x07]);
-        for byte in &mut payload {
-            *byte &= keep;
-            if b.random.one_in(2) {
-                *byte = (*byte & 0xfc) | 1;
-            }
-        }
+        let payload = some_settings(b, length);
         b.command(opcode::SET_POLICY, payload);
         b.command(opcode::GET_POLICY, vec![]);
     }
@@ -231,7 +230,7 @@ pub fn one_step(b: &mut Builder) {
         }
         9 => {
             let length = b.random.pick(&[4, 5]);
-            let payload = b.random.bytes(length);
+            let payload = some_settings(b, length);
             b.command(opcode::SET_POLICY, payload);
         }
         10 => {

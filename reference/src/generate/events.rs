@@ -1,6 +1,7 @@
 //! Profiles about event logs, handles, overflow and the clock.
 
 use super::builder::{clear_payload, Builder};
+use super::reserved::spoil_clear;
 use crate::device::events::handles_given;
 use crate::device::numbers::opcode;
 
@@ -154,6 +155,10 @@ pub fn one_clear(b: &mut Builder, log: u8) {
             let flags = b.random.pick(&[0, 1]);
             let mut payload = clear_payload(log, flags, &handles);
             payload[2] = payload[2].wrapping_add(b.random.pick(&[1, 255]));
+            // And with something reserved set: the length comes first.
+            if b.random.one_in(3) {
+                spoil_clear(b, &mut payload);
+            }
             b.command(opcode::CLEAR_EVENT_RECORDS, payload);
             return;
         }
@@ -164,7 +169,7 @@ pub fn one_clear(b: &mut Builder, log: u8) {
             b.command(opcode::CLEAR_EVENT_RECORDS, payload);
             return;
         }
-        // Other flag bits, which are ignored.
+        // Other flag bits, which are refused (W-205).
         13 => flags = b.random.pick(&[2, 4, 0x80, 0xfe]),
         14 => handles.clear(),
         // A log that is not there, with handles of one that is.
@@ -221,13 +226,14 @@ fn drain_log(b: &mut Builder, log: u8) {
 /// those for 65,535 and 1 among them.
 pub fn handles_come_round(b: &mut Builder) {
     b.any_device();
-    let log = b.random.below(5) as u8;
+    // Few seeds choose this profile: log 0 more often, for the injections.
+    let log = b.random.pick(&[0, 1, 0, 2, 3, 4]);
     if b.random.one_in(2) {
         b.command(opcode::SET_POLICY, vec![1; 5]);
     }
     let other = (log + 1) % 5;
     let drained = b.random.pick(&[2, 3]);
-    b.set_target(75_000);
+    b.set_target(76_000);
     let mut rounds = 0u64;
     while b.more() && rounds < 65_560 {
         let next = b.device().log(log.into()).next_handle();
@@ -278,9 +284,12 @@ pub fn clear_all(b: &mut Builder) {
             b.event(log);
         }
         let held = b.device().log(log.into()).handles();
-        let flags = b.random.pick(&[1, 1, 3, 0xff, 0xfe, 0x81]);
+        let flags = match b.random.one_in(6) {
+            true => b.random.pick(&[3, 0xff, 0xfe, 0x81]),
+            false => b.random.pick(&[1, 1, 1, 1, 0]),
+        };
         let wrong = b.random.pick_log_above_4();
-        match b.random.below(5) {
+        match b.random.below(6) {
             0 => b.clear_events(log, flags, &held),
             1 => b.clear_events(log, flags, &held[..held.len().min(1)]),
             2 => b.clear_events(log, flags, &[0]),

@@ -5,6 +5,7 @@ use super::builder::Builder;
 use super::commands::plausible_payload;
 use super::poison::{poison_step, Region};
 use super::probe::busy_device;
+use super::reserved::some_settings;
 use crate::device::numbers::{number, opcode};
 use crate::device::{Config, EFFECTS_IDENTIFIER};
 use crate::host::layout::{layout, reserved_bits, size_of, Field, Layout};
@@ -50,7 +51,7 @@ fn any_request(b: &mut Builder) -> Request {
             };
             Request::ClearEventRecords {
                 log,
-                flags: b.random.pick(&[0, 0, 1, 0xff]),
+                flags: b.random.pick(&[0, 0, 0, 0, 1, 0xff, 0xfe]),
                 handles,
             }
         }
@@ -58,7 +59,7 @@ fn any_request(b: &mut Builder) -> Request {
         opcode::SET_POLICY => {
             let n = b.random.pick(&[4, 5]);
             Request::SetPolicy {
-                settings: b.random.bytes(n),
+                settings: some_settings(b, n),
             }
         }
         opcode::GET_TIMESTAMP => Request::GetTimestamp,

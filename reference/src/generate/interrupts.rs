@@ -4,6 +4,7 @@
 use super::builder::Builder;
 use super::events::one_clear;
 use super::poison::{region, Region};
+use super::reserved::{spoil_settings, taken_settings};
 use crate::device::numbers::opcode;
 
 /// The log to which an injection reports.
@@ -21,12 +22,16 @@ pub fn some_policy(b: &mut Builder) {
             one[b.random.below(5) as usize] = 1;
             one
         }
-        _ => b.random.bytes(5),
+        _ => taken_settings(b, 5),
     };
     settings.truncate(length);
     // Bits 2 to 7 are the caller's: they change nothing.
     if b.random.one_in(3) {
         settings[0] ^= b.random.pick(&[4, 0x20, 0xf0, 0xfc]);
+    }
+    // A mode of 2 or 3: refused, and the policy is as it was (W-205).
+    if b.random.one_in(8) {
+        spoil_settings(b, &mut settings);
     }
     b.command(opcode::SET_POLICY, settings);
 }

@@ -9,6 +9,7 @@ pub mod interrupts;
 pub mod malformed;
 pub mod poison;
 pub mod probe;
+pub mod reserved;
 
 use crate::format::Format;
 use builder::Builder;
@@ -136,6 +137,11 @@ pub const PROFILES: &[Profile] = &[
         "Clear All with and without overflow, with n nonzero",
     ),
     one(
+        "reserved",
+        reserved::reserved,
+        "Clear Event Records with reserved flag bits and bytes, right and wrong otherwise",
+    ),
+    one(
         "drain",
         events::drain,
         "a host that clears what it read, with reports between the two",
@@ -163,7 +169,12 @@ pub const PROFILES: &[Profile] = &[
     one(
         "policy",
         commands::policy,
-        "policy bytes of every mode, four and five of them",
+        "policy bytes of every value that is taken, four and five of them, and some refused",
+    ),
+    one(
+        "modes",
+        reserved::modes,
+        "modes 2 and 3 at every place of a policy, with what it enables",
     ),
     one(
         "get-log",
@@ -335,7 +346,7 @@ pub const PROBE_PROFILES: &[Profile] = &[
 /// Seeds `compare` runs where none are given: two rounds of [`SEED_ROUND`].
 pub const DEFAULT_SEEDS: std::ops::Range<u64> = 0..2 * SEED_ROUND;
 /// Each large profile is chosen by one seed of a round.
-const SEED_ROUND: u64 = 138;
+const SEED_ROUND: u64 = 155;
 
 /// Every profile of a format.
 pub fn profiles(format: Format) -> Vec<&'static Profile> {

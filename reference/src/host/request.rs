@@ -111,18 +111,49 @@ impl Request {
     }
 
     /// Builds the payload in the caller's room: the return number and the length.
-    /// 0100h for the room first, "then 0016h for over 255 handles".
+    /// 0100h for the room first, "then 0016h for over 255 handles". Flags and modes that
+    /// the device refuses (W-205) are built as given.
     pub fn build(&self, room: &mut [u8], config: Config) -> (u16, usize) {
-        let payload = self.payload();
+        let payload = match config.fault {
+            Some(fault) => self.faulty_payload(fault, room),
+            None => self.payload(),
+        };
         let enough = fits(payload.len(), room.len(), config);
         let too_many = match self {
             Request::ClearEventRecords { handles, .. } => handles.len() > MOST_HANDLES,
             _ => false,
         };
         let counted = too_many && !config.has(Fault::HandlesOver255Taken);
+        if config.has(Fault::RequestReservedJudged) && enough && self.refused_when_sent() {
+            return put(Err(Refusal::InvalidInput), room, config);
+        }
         match counted && (enough || config.has(Fault::HandlesBeforeRoom)) {
             true => put(Err(Refusal::InvalidPayloadLength), room, config),
             false => put(Ok(payload), room, config),
         }
+    }
+    /// Whether W-205 has the device refuse it for its flags or modes (for a planted fault).
+    fn refused_when_sent(&self) -> bool {
+        match self {
+            Request::ClearEventRecords { flags, .. } => *flags > 1,
+            Request::SetPolicy { settings } => settings.iter().any(|setting| setting & 2 != 0),
+            _ => false,
+        }
+    }
+
+    /// The payload with the planted faults about the reserved places of a Clear Event
+    /// Records.
+    fn faulty_payload(&self, fault: Fault, room: &[u8]) -> Vec<u8> {
+        let mut payload = self.payload();
+        if self.code() == opcode::CLEAR_EVENT_RECORDS {
+            match fault {
+                Fault::RequestFlagsMasked => payload[1] &= 1,
+                Fault::RequestReservedNotWritten if room.len() >= payload.len() => {
+                    payload[3..6].copy_from_slice(&room[3..6]);
+                }
+                _ => {}
+            }
+        }
+        payload
     }
 }
