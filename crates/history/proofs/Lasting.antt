@@ -27,12 +27,12 @@ use Rattle.mailbox.specs.Outcome.{Outcome}
 use Rattle.mailbox.specs.Commands.{admission}
 use Rattle.mailbox.specs.declared.clock.Clock.{Clock}
 use Rattle.mailbox.specs.Clock.{device-time}
-use Rattle.mailbox.specs.Policy.{known-modes, set-policy}
+use Rattle.mailbox.specs.Policy.{set-interrupt-policy}
 use Rattle.mailbox.specs.EventCommands.{clear-event-records}
 use Rattle.mailbox.specs.PoisonCommands.{line-of, line-code, inject-poison, inject-adds, injection-record, clear-poison}
-use Rattle.mailbox.specs.Mailbox.{set-interrupt-policy, run-command, inject, outcome}
+use Rattle.mailbox.specs.Mailbox.{run-command, inject, outcome}
 use Rattle.mailbox.specs.DeviceCalls as Device
-use Rattle.mailbox.proofs.Laws.{line-inside, media-zero}
+use Rattle.mailbox.proofs.Laws.{line-inside, media-zero, five-settings}
 use Rattle.wire.proofs.Laws.{and-parts, either}
 use Rattle.history.specs.Calls.{Call, command, event-report, media-report, line-test, event-status, damage-total, step, after}
 
@@ -213,12 +213,11 @@ module _ {P : LogState → Type 0} (lasting : Lasting P) where
           widths = λ w. record { policy = w .policy; time = w .time };
         }
 
-    policy-kept : (p : List ℕ) → Kept (with-policy s (set-policy (s .policy) p))
-    unfolding set-policy
+    policy-kept : (p : List ℕ) → Kept (with-policy s (set-interrupt-policy (s .policy) p .policy))
     policy-kept p =
         record {
           holds = record { some-unit = h .some-unit; few-units = h .few-units; logs = h .logs; entries = h .entries };
-          widths = λ w. record { policy = refl; time = w .time };
+          widths = λ w. record { policy = five-settings (s .policy) p (w .policy); time = w .time };
         }
 
     itself-kept : Kept s
@@ -242,12 +241,12 @@ module _ {P : LogState → Type 0} (lasting : Lasting P) where
 
     -- after a command
     run-leaves : (op : ℕ) (p : List ℕ) (time : ℕ) → Leaves (run-command s op p time)
-    unfolding run-command clear-event-records set-interrupt-policy
+    unfolding run-command clear-event-records
     run-leaves op p time =
         either Leaves (eqb op 0x0100) (stays _ refl)
         (either Leaves (eqb op 0x0101) (record { kept = logs-kept _ (clear-keeps lasting (s .logs) (h .logs) p) })
         (either Leaves (eqb op 0x0102) (stays _ refl)
-        (either Leaves (eqb op 0x0103) (either Leaves (known-modes p) (record { kept = policy-kept p }) (stays _ refl))
+        (either Leaves (eqb op 0x0103) (record { kept = policy-kept p })
         (either Leaves (eqb op 0x0300) (stays _ refl)
         (either Leaves (eqb op 0x0301) (record { kept = clock-kept _ })
         (either Leaves (eqb op 0x0400) (stays _ refl)

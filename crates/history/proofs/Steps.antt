@@ -19,8 +19,7 @@ use Rattle.mailbox.specs.Commands.{admission}
 use Rattle.mailbox.specs.Clock.{device-time}
 use Rattle.mailbox.specs.EventCommands.{clear-event-records}
 use Rattle.mailbox.specs.PoisonCommands.{line-of, line-code, inject-poison, clear-poison}
-use Rattle.mailbox.specs.Policy.{known-modes}
-use Rattle.mailbox.specs.Mailbox.{set-interrupt-policy, run-command, outcome}
+use Rattle.mailbox.specs.Mailbox.{run-command, outcome}
 use Rattle.mailbox.specs.DeviceCalls as Device
 use Rattle.mailbox.proofs.Laws.{line-inside, media-zero, injection-list}
 use Rattle.history.specs.Calls.{Call, command, event-report, media-report, line-test, event-status, damage-total, step}
@@ -63,13 +62,13 @@ either d false x y s t = t
 
 -- a command that is neither Inject Poison nor Clear Poison leaves the list
 run-leaves : (d : DeviceState) (op : ℕ) (p : List ℕ) (t : ℕ) → eqb op 0x4301 ≡ false → eqb op 0x4302 ≡ false → Same d (run-command d op p t .next)
-unfolding run-command clear-event-records set-interrupt-policy
+unfolding run-command clear-event-records
 run-leaves d op p t i c =
     rw (i, c)
     (either d (eqb op 0x0100) _ _ (same-self d)
     (either d (eqb op 0x0101) _ _ (record { lines = refl; list = refl })
     (either d (eqb op 0x0102) _ _ (same-self d)
-    (either d (eqb op 0x0103) _ _ (either d (known-modes p) _ _ (record { lines = refl; list = refl }) (same-self d))
+    (either d (eqb op 0x0103) _ _ (record { lines = refl; list = refl })
     (either d (eqb op 0x0300) _ _ (same-self d)
     (either d (eqb op 0x0301) _ _ (record { lines = refl; list = refl })
     (either d (eqb op 0x0400) _ _ (same-self d)

@@ -19,12 +19,12 @@ use Rattle.mailbox.specs.State.{DeviceState, lines-of}
 use Rattle.mailbox.specs.Outcome.{Outcome, changes, no-reply, replied as replied-bytes}
 use Rattle.mailbox.specs.Commands.{commands}
 use Rattle.mailbox.specs.Clock.{device-time, get-timestamp}
-use Rattle.mailbox.specs.Policy.{get-policy, known-modes}
+use Rattle.mailbox.specs.Policy.{get-policy}
 use Rattle.mailbox.specs.EffectsLog.{effects-log, effects-log-id, effects-log-size, log-offset, log-length, get-supported-logs, get-log}
 use Rattle.mailbox.specs.Identity.{version, limits, identify}
 use Rattle.mailbox.specs.EventCommands.{get-event-records, clear-event-records}
 use Rattle.mailbox.specs.PoisonCommands.{line-of, range-code, list-reply, get-poison-list, inject-adds}
-use Rattle.mailbox.specs.Mailbox.{run-command, set-interrupt-policy, inject, outcome}
+use Rattle.mailbox.specs.Mailbox.{run-command, inject, outcome}
 use Rattle.mailbox.proofs.Laws.{accepted-runs}
 use Rattle.host_replies.specs.declared.counted.Kind.the-variants.{SupportedLogs}
 use Rattle.host_replies.specs.declared.reply.EventsRead.{EventsRead}
@@ -185,12 +185,12 @@ module _ (d : DeviceState) (plain : Plain d) (p : List ℕ) (time room : ℕ) wh
   injection-silent = either (Accepts read-nothing) (inject-adds (lines-of d) (d .poison) p) (record { accepts = λ z. nothing-taken [] refl }) (silent _ _)
 
   run-accepts : (op : ℕ) → Accepts (reading-code op (log-length p)) (run-command d op p time)
-  unfolding reading-code run-command clear-event-records get-policy set-interrupt-policy
+  unfolding reading-code run-command clear-event-records get-policy
   run-accepts op =
       choice (eqb op 0x0100) (record { accepts = λ z. ap (λ (r : EventsRead). r .code) (events-given z .fields) })
       (choice (eqb op 0x0101) (silent _ _)
       (choice (eqb op 0x0102) (record { accepts = λ z. ap (λ (r : PolicyRead). r .code) (policy-taken (d .policy) (plain .policy)) })
-      (choice (eqb op 0x0103) (either (Accepts read-nothing) (known-modes p) (silent _ _) (silent _ _))
+      (choice (eqb op 0x0103) (silent _ _)
       (choice (eqb op 0x0300) (record { accepts = λ z. ap (λ (r : TimeRead). r .code) (time-holds d time) })
       (choice (eqb op 0x0301) (silent _ _)
       (choice (eqb op 0x0400) (record { accepts = λ z. ap (λ (r : LogsRead). r .code) (logs-given .fields) })

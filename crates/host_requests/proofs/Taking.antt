@@ -20,7 +20,8 @@ use Rattle.events.specs.Clear as Clear
 use Rattle.events.specs.Clear.{ClearedState, all-flag, other-flags, count-field, handles-at, clear-payload, clear-code, clear-log-code, clear-size, clear-log, clear-taken}
 use Rattle.events.proofs.Laws.{payload-length, payload-log, payload-flags, payload-count, payload-reserved, payload-handles}
 use Rattle.mailbox.specs.Numbers.{mailbox-size, event-records}
-use Rattle.mailbox.specs.State.{DeviceState, lines-of, with-logs, with-poison}
+use Rattle.mailbox.specs.State.{DeviceState, lines-of, with-policy, with-logs, with-poison}
+use Rattle.mailbox.specs.Policy.{known-modes, set-policy, set-interrupt-policy}
 use Rattle.mailbox.specs.Outcome.{reads, replied, no-reply, changes, refused}
 use Rattle.mailbox.specs.Commands.{commands, admission}
 use Rattle.mailbox.specs.Clock as Clock
@@ -34,7 +35,7 @@ use Rattle.poison.specs.State.{PoisonState, covers}
 use Rattle.poison.specs.Inject.{with-entry}
 use Rattle.poison.specs.Clear.{after-clear}
 use Rattle.mailbox.specs.DeviceCalls.{EventOutcome, event-report}
-use Rattle.mailbox.specs.Mailbox.{set-interrupt-policy, changes-list, reports, inject, run-command, outcome}
+use Rattle.mailbox.specs.Mailbox.{changes-policy, changes-list, reports, inject, run-command, outcome}
 use Rattle.mailbox.proofs.Laws.{admitted-runs, clear-events-admitted}
 use Rattle.wire.specs.declared.done.Done.{Done}
 use Rattle.wire.specs.Done.{Written, Writes, written}
@@ -92,10 +93,17 @@ set-time-taken value small =
     (λ d time. rw (number-read 8 value small))
 
 -- ---- settings
+set-meant : (b : Bool) (new : List ℕ) (d : DeviceState)
+    → changes-policy d (need b (record { code = invalid-input; policy = d .policy }) (record { code = success; policy = new }))
+    ≡ need b (refused invalid-input d) (changes success (with-policy d new))
+set-meant true new d = refl
+set-meant false new d = refl
+
 settings-taken : (settings : List ℕ) → countable (Q.set-event-interrupt-policy settings) ≡ true → Taken (Q.set-event-interrupt-policy settings)
 unfolding opcode payload admission commands run-command set-interrupt-policy meant countable
 settings-taken settings c =
-    taking (Q.set-event-interrupt-policy settings) (λ room h. go room h (ℕ-discrete (length settings) 4)) refl (λ d time. refl)
+    taking (Q.set-event-interrupt-policy settings) (λ room h. go room h (ℕ-discrete (length settings) 4)) refl
+    (λ d time. set-meant (known-modes settings) (set-policy (d .policy) settings) d)
   where
     go : (room : ℕ) → mailbox-size ≤ room → Dec (length settings ≡ 4) → admission 0x0103 (length settings) room ≡ 0
     go room h (yes e) = rw (e, le-leb mailbox-size room h)

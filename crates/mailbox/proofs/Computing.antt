@@ -12,12 +12,12 @@ use Rattle.events.specs.Drain as Drain
 use Rattle.events.specs.Status as Status
 use Rattle.mailbox.specs.Commands.{commands, admission}
 use Rattle.mailbox.specs.Clock.{device-time, get-timestamp, set-timestamp}
-use Rattle.mailbox.specs.Policy.{setting, get-policy, known-modes, set-policy}
+use Rattle.mailbox.specs.Policy.{setting, get-policy, known-modes, set-policy, set-interrupt-policy}
 use Rattle.mailbox.specs.EffectsLog.{effects-log, effects-log-id, get-supported-logs, get-log}
 use Rattle.mailbox.specs.Identity.{version, limits, identify}
 use Rattle.mailbox.specs.EventCommands.{get-event-records, clear-event-records}
 use Rattle.mailbox.specs.PoisonCommands.{line-code, range-code, inject-poison, inject-adds, injection-record, clear-poison, list-flags, list-header, list-reply, get-poison-list}
-use Rattle.mailbox.specs.Mailbox.{run-command, set-interrupt-policy, inject, outcome}
+use Rattle.mailbox.specs.Mailbox.{run-command, inject, outcome}
 use Rattle.mailbox.specs.Vector as Vector
 use Rattle.mailbox.specs.DeviceCalls as Device
 

@@ -15,7 +15,7 @@ use Rattle.poison.specs.declared.line_test.LineTest.{LineTest}
 use Rattle.poison.specs.declared.line_test.LineTest.the-variants.{Clean, Damaged, Unknown}
 use Rattle.events.specs.Log.{LogState}
 use Rattle.events.proofs.Laws.{refused-report-changes-nothing, refused-clear-changes-nothing, refused-get-replies-nothing}
-use Rattle.mailbox.specs.State.{DeviceState, lines-of, with-logs, with-poison, state-of}
+use Rattle.mailbox.specs.State.{DeviceState, lines-of, with-policy, with-logs, with-poison, state-of}
 use Rattle.mailbox.specs.declared.device.Device.{Device}
 use Rattle.mailbox.specs.declared.device.Answer.{Answer}
 use Rattle.mailbox.specs.declared.device.Made.{Made}
@@ -31,13 +31,14 @@ use Rattle.mailbox.specs.Numbers.{mailbox-size, most-units}
 use Rattle.mailbox.specs.Commands.{admission}
 use Rattle.mailbox.specs.Outcome.{Reply, replied, no-reply, Outcome, reads, changes}
 use Rattle.mailbox.specs.Clock.{device-time, get-timestamp}
-use Rattle.mailbox.specs.Policy.{get-policy, known-modes}
+use Rattle.mailbox.specs.Policy.{get-policy, set-interrupt-policy}
 use Rattle.mailbox.specs.EffectsLog.{effects-log-size, effects-log-id, log-offset, log-length, get-supported-logs, get-log}
 use Rattle.mailbox.specs.Identity.{identify}
 use Rattle.mailbox.specs.EventCommands.{get-event-records, clear-event-records}
 use Rattle.mailbox.specs.PoisonCommands.{ListChange, line-of, line-code, range-code, get-poison-list, inject-poison, inject-adds, clear-poison}
-use Rattle.mailbox.specs.Mailbox.{run-command, set-interrupt-policy, inject, outcome, changes-list}
+use Rattle.mailbox.specs.Mailbox.{run-command, inject, outcome, changes-policy, changes-list}
 use Rattle.mailbox.specs.DeviceCalls.{new-device, MakeOutcome, make, event-report, media-code, MediaOutcome, media-report, LineOutcome, line-test}
+use Rattle.mailbox.proofs.PolicyLaws.{refused-set-changes-nothing}
 use Rattle.mailbox.proofs.VectorLaws.{raised-later}
 
 -- a number that is not 0 comes with no reply, the state as it was and no vector
@@ -82,9 +83,8 @@ silent-refuses d k = record { refuses = λ h. (k .silent h, refl, refl) }
 success-refuses : (d e : DeviceState) → Refuses d (changes 0 e)
 success-refuses d e = record { refuses = λ h. absurd (h refl) }
 
-policy-refuses : (d : DeviceState) (p : List ℕ) → Refuses d (set-interrupt-policy d p)
-unfolding set-interrupt-policy
-policy-refuses d p = either (Refuses d) (known-modes p) (success-refuses d _) (record { refuses = λ h. (refl, refl, refl) })
+policy-refuses : (d : DeviceState) (p : List ℕ) → Refuses d (changes-policy d (set-interrupt-policy (d .policy) p))
+policy-refuses d p = record { refuses = λ h. (refl, ap (with-policy d) (refused-set-changes-nothing (d .policy) p h), refl) }
 
 events-refuse : (d : DeviceState) (p : List ℕ) → Refuses d (clear-event-records d p)
 unfolding clear-event-records

@@ -37,7 +37,7 @@ pub use Rattle.mailbox.proofs.Raising.{settings-vector, enabled-set, en
 -- W-205: past the checks of its length a Clear Event Records with something reserved set is 0002h and leaves the device, whatever the device holds, and one that is answered 0000h has nothing
 -- reserved set; a Set Event Interrupt Policy with a mode of 2 or 3 in any byte given is 0002h and leaves the device, and one with modes 0 and 1 alone makes the settings.
 pub use Rattle.mailbox.proofs.Reserved.{reserved-clear-refused, accepted-clear-reserved, mode-refused, modes-accepted}
--- The modes of all bytes are known exactly where that of each is.
-pub use Rattle.mailbox.proofs.PolicyLaws.{mode-known, modes-known}
+-- The modes of all bytes are known exactly where that of each is. After a Set Event Interrupt Policy, refused or not, five settings are five.
+pub use Rattle.mailbox.proofs.PolicyLaws.{mode-known, modes-known, five-settings}
 -- To unfold `rules` is to unfold every definition of a call: on a device that is written out it then computes.
 unfoldable pub use Rattle.mailbox.proofs.Computing.{rules}

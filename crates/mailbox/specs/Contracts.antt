@@ -13,6 +13,7 @@ use Rattle.poison.specs.LineTest.{answer-number, answer-type}
 use Rattle.events.specs.declared.status.Status.{Status}
 use Rattle.events.specs.Status.{StatusOutcome}
 use Rattle.mailbox.specs.declared.outcome.Done.{Done}
+use Rattle.mailbox.specs.declared.policy.PolicySet.{PolicySet}
 use Rattle.mailbox.specs.declared.device.Device.{Device}
 use Rattle.mailbox.specs.declared.device.Made.{Made}
 use Rattle.mailbox.specs.declared.device.Answer.{Answer}
@@ -22,6 +23,7 @@ use Rattle.mailbox.specs.declared.device_calls.LineAnswer.{LineAnswer}
 use Rattle.mailbox.specs.State.{ValidDevice, state-of}
 use Rattle.mailbox.specs.Vector.{Carries}
 use Rattle.mailbox.specs.Outcome.{Reply, Outcome}
+use Rattle.mailbox.specs.Policy.{PolicyChange}
 use Rattle.mailbox.specs.PoisonCommands.{ListChange, inject-poison, inject-adds}
 use Rattle.mailbox.specs.DeviceCalls.{MakeOutcome, EventOutcome, MediaOutcome, LineOutcome}
 
@@ -30,6 +32,11 @@ pub record Replied (o : Reply) (r : Done) (before after : List ℕ) : Type 0 whe
   pub code : r .code ≡ o .code
   pub size : r .length ≡ length (o .bytes)
   pub bytes : after ≡ splice 0 (o .bytes) before
+
+-- Set Event Interrupt Policy: its number, and the settings that follow
+pub record PolicyDone (o : PolicyChange) (r : PolicySet) : Type 0 where
+  pub code : r .code ≡ o .code
+  pub policy : r .policy ≡ o .policy
 
 -- a command that changes the poison list, by its return number c and the list r that it leaves; a refusal leaves the very same list
 pub record ListDone (o : ListChange) (lines : ℕ) (l : PoisonList) (c : ℕ) (r : PoisonList) : Type 0 where

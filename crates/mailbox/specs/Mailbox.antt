@@ -5,23 +5,22 @@ use mathlib.Core.List.{List, []}
 use lib.Dec.{eqb}
 use lib.ListN.{length}
 use Rattle.wire.specs.Wire.{field}
-use Rattle.wire.specs.Returns.{success, invalid-input, unsupported, need}
+use Rattle.wire.specs.Returns.{success, unsupported, need}
 use Rattle.mailbox.specs.State.{DeviceState, lines-of, with-clock, with-policy, with-poison}
 use Rattle.mailbox.specs.Outcome.{Outcome, reads, changes, refused}
 use Rattle.mailbox.specs.Commands.{admission}
 use Rattle.mailbox.specs.Clock.{device-time, get-timestamp, set-timestamp}
-use Rattle.mailbox.specs.Policy.{get-policy, known-modes, set-policy}
+use Rattle.mailbox.specs.Policy.{PolicyChange, get-policy, set-interrupt-policy}
 use Rattle.mailbox.specs.EffectsLog.{get-supported-logs, get-log}
 use Rattle.mailbox.specs.Identity.{identify}
 use Rattle.mailbox.specs.EventCommands.{get-event-records, clear-event-records}
 use Rattle.mailbox.specs.PoisonCommands.{ListChange, get-poison-list, inject-poison, inject-adds, injection-record, clear-poison}
 use Rattle.mailbox.specs.DeviceCalls.{EventOutcome, event-report}
 
--- 0103h (document 02, W-205): "Set Event Interrupt Policy with a low-two-bits mode of 2 or 3" is 0002h, "directly after its last length check"; else the new settings
-unfoldable pub set-interrupt-policy : DeviceState → List ℕ → Outcome
-set-interrupt-policy d p = need (known-modes p) (refused invalid-input d) (changes success (with-policy d (set-policy (d .policy) p)))
+-- the outcome of a command that changes the settings, and of one that changes the poison list
+abbrev pub changes-policy : DeviceState → PolicyChange → Outcome
+changes-policy d c = changes (c .code) (with-policy d (c .policy))
 
--- the outcome of a command that changes the poison list
 abbrev pub changes-list : DeviceState → ListChange → Outcome
 changes-list d c = changes (c .code) (with-poison d (c .list))
 
@@ -47,7 +46,7 @@ run-command d op p time =
     cond (eqb op 0x0100) (reads d (get-event-records (d .logs) p))
     (cond (eqb op 0x0101) (clear-event-records d p)
     (cond (eqb op 0x0102) (reads d (get-policy (d .policy)))
-    (cond (eqb op 0x0103) (set-interrupt-policy d p)
+    (cond (eqb op 0x0103) (changes-policy d (set-interrupt-policy (d .policy) p))
     (cond (eqb op 0x0300) (reads d (get-timestamp (d .clock) time))
     (cond (eqb op 0x0301) (changes success (with-clock d (set-timestamp p time)))
     (cond (eqb op 0x0400) (reads d get-supported-logs)
