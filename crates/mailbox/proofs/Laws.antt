@@ -34,9 +34,11 @@ pub use Rattle.mailbox.proofs.Raising.{empty-raises, injection-raises, 
 -- W-204, the settings: of logs 0 to 3 the setting that Set Event Interrupt Policy makes has the vector that is raised; a log is enabled after it exactly where the low two
 -- bits of its byte are 1, log 4 where the payload has its byte.
 pub use Rattle.mailbox.proofs.Raising.{settings-vector, enabled-set, enabled-last}
--- W-205: past the checks of its length a Clear Event Records with something reserved set is 0002h and leaves the device, whatever the device holds, and one that is answered 0000h has nothing
--- reserved set; a Set Event Interrupt Policy with a mode of 2 or 3 in any byte given is 0002h and leaves the device, and one with modes 0 and 1 alone makes the settings.
-pub use Rattle.mailbox.proofs.Reserved.{reserved-clear-refused, accepted-clear-reserved, mode-refused, modes-accepted}
+-- W-205, Clear Event Records: one not as long as its count says is 0016h; one that is, with a flag bit 1 to 7 set or a reserved byte not zero, is 0002h and leaves the device, whatever the device
+-- holds; one that is answered 0000h has neither.
+pub use Rattle.mailbox.proofs.Reserved.{length-clear-refused, reserved-clear-refused, flag-refused, byte-refused, accepted-clear-reserved}
+-- W-205, Set Event Interrupt Policy: one with a mode of 2 or 3 in any byte given is 0002h and leaves the device, and one with modes 0 and 1 alone makes the settings.
+pub use Rattle.mailbox.proofs.Reserved.{mode-refused, modes-accepted}
 -- The modes of all bytes are known exactly where that of each is. After a Set Event Interrupt Policy, refused or not, five settings are five.
 pub use Rattle.mailbox.proofs.PolicyLaws.{mode-known, modes-known, five-settings}
 -- To unfold `rules` is to unfold every definition of a call: on a device that is written out it then computes.
