@@ -1,6 +1,9 @@
 //! The comparison: planted faults are found, a difference is reported, large
 //! streams pass through a child process, and a seed gives one stream.
 
+mod common;
+
+use common::each_step;
 use reference::case::answer::answer;
 use reference::compare::{find_faults, run, without_host, Plan, Subject};
 use reference::device::events::EventLog;
@@ -447,17 +450,12 @@ fn situations(format: Format) -> std::collections::BTreeMap<String, usize> {
         if !names.contains(&profile.name) && !profile.name.starts_with("inject-") {
             continue;
         }
-        let stream = profile.stream_of(format, seed, 0, None);
-        let mut model = reference::probe::Probe::new(Config::default());
         let mut injected = false;
-        for (_, record) in format.records(&stream) {
-            let record = record.unwrap();
-            let before = model.device().clone();
-            model.step(&record);
-            let vector = last_column(model.line.as_bytes());
+        each_step(format, profile, seed, |record, before, after| {
+            let vector = last_column(after.line.as_bytes());
             let mut count = |what: String| *found.entry(what).or_insert(0) += 1;
             let state = |log: usize| state(before.log(log));
-            match &record {
+            match record {
                 Record::Event { log, .. } if *log < 5 => {
                     let log = usize::from(*log);
                     count(format!("report, log {log} {}, vector {vector}", state(log)));
@@ -468,10 +466,10 @@ fn situations(format: Format) -> std::collections::BTreeMap<String, usize> {
                     payload,
                     ..
                 } => {
-                    let line = String::from_utf8_lossy(model.line.as_bytes()).to_string();
+                    let line = String::from_utf8_lossy(after.line.as_bytes()).to_string();
                     let code = line.split(' ').nth(1).unwrap();
                     let entries = before.poison_list().held();
-                    let added = model.device().poison_list().held() > entries;
+                    let added = after.device().poison_list().held() > entries;
                     let what = match (code, added) {
                         ("0", true) => "adds an entry".to_string(),
                         ("0", false) if entries == 256 => "covered at 256 entries".to_string(),
@@ -492,7 +490,7 @@ fn situations(format: Format) -> std::collections::BTreeMap<String, usize> {
                         }
                     }
                     injected = true;
-                    continue;
+                    return;
                 }
                 Record::Command {
                     opcode: opcode::GET_EVENT_RECORDS,
@@ -502,7 +500,7 @@ fn situations(format: Format) -> std::collections::BTreeMap<String, usize> {
                 _ => {}
             }
             injected = false;
-        }
+        });
     }
     found
 }
@@ -586,21 +584,16 @@ fn reserved_situations(format: Format) -> std::collections::BTreeMap<String, usi
         if !names.contains(&profile.name) {
             continue;
         }
-        let stream = profile.stream_of(format, seed, 0, None);
-        let mut model = reference::probe::Probe::new(Config::default());
-        for (_, record) in format.records(&stream) {
-            let record = record.unwrap();
-            let before = model.device().clone();
-            model.step(&record);
+        each_step(format, profile, seed, |record, before, _| {
             let mut count = |what: String| *found.entry(what).or_insert(0) += 1;
             let Record::Command {
                 opcode: code,
                 room: 2048..,
                 payload,
                 ..
-            } = &record
+            } = record
             else {
-                continue;
+                return;
             };
             match (*code, payload.len()) {
                 (opcode::CLEAR_EVENT_RECORDS, 6..) => {
@@ -608,7 +601,7 @@ fn reserved_situations(format: Format) -> std::collections::BTreeMap<String, usi
                         &[payload[0], payload[1] & 1, payload[2], 0, 0, 0],
                         &payload[6..],
                     ];
-                    let number = number_of(&before, *code, &zeros.concat());
+                    let number = number_of(before, *code, &zeros.concat());
                     let all = match payload[1] & 1 {
                         0 => "by handles",
                         _ => "all",
@@ -627,7 +620,7 @@ fn reserved_situations(format: Format) -> std::collections::BTreeMap<String, usi
                 }
                 (opcode::SET_POLICY, length) => {
                     let bad = |setting: &&u8| **setting & 3 >= 2;
-                    let number = number_of(&before, *code, payload);
+                    let number = number_of(before, *code, payload);
                     match payload.iter().filter(bad).count() {
                         0 => count(format!("{}: set, {number}", profile.name)),
                         1 => {
@@ -640,7 +633,7 @@ fn reserved_situations(format: Format) -> std::collections::BTreeMap<String, usi
                 }
                 _ => {}
             }
-        }
+        });
     }
     found
 }

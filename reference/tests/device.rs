@@ -1,13 +1,15 @@
 //! The commands and calls other than the poison ones, by document 01's
 //! sentences; P1 to P6; W-201 of document 02.
 
+mod common;
+
+use common::each_step;
 use reference::device::events::{handles_given, more, EventLog};
 use reference::device::logs::Reported;
 use reference::device::numbers::{opcode, Refusal};
 use reference::device::{Config, Device};
 use reference::format::Format;
 use reference::generate::profile_named;
-use reference::probe::Probe;
 
 const SUCCESS: Result<Vec<u8>, Refusal> = Ok(Vec::new());
 /// Event reports without a vector.
@@ -213,15 +215,12 @@ fn w201_read_clear_what_was_read_and_read_again() {
 fn w201_holds_after_generated_calls() {
     for name in ["drain", "overflow", "wrong-handles", "everything"] {
         let profile = profile_named(Format::Probe, name).unwrap();
-        let stream = profile.stream_of(Format::Probe, 1, 0, None);
-        let mut probe = Probe::new(Config::default());
-        for (_, record) in Format::Probe.records(&stream) {
-            probe.step(&record.unwrap());
-            let mut device = probe.device().clone();
+        each_step(Format::Probe, profile, 1, |_, _, after| {
+            let mut device = after.device().clone();
             for log in 0..5 {
                 drain(&mut device, log);
             }
-        }
+        });
     }
 }
 

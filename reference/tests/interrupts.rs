@@ -1,13 +1,15 @@
 //! Document 02, W-204, sentence by sentence: the vector to raise, and the event that an
 //! injection reports.
 
+mod common;
+
+use common::each_step;
 use reference::device::logs::Reported;
 use reference::device::numbers::{number, opcode, Refusal};
 use reference::device::{Answered, Config, Device, Done, LineAnswer};
 use reference::format::Format;
 use reference::generate::profile_named;
 use reference::probe::record::Record;
-use reference::probe::Probe;
 
 /// Document 01 "vectors 2, 3, 4, 5 for logs 0 to 3", W-204 "log 4 uses vector 2".
 const VECTORS: [u8; 5] = [2, 3, 4, 5, 2];
@@ -337,21 +339,16 @@ fn it_holds_after_generated_calls() {
     let (mut vectors, mut injections) = (0, 0);
     for (name, seed) in names.into_iter().flat_map(|name| [(name, 1), (name, 2)]) {
         let profile = profile_named(Format::Probe, name).unwrap();
-        let stream = profile.stream_of(Format::Probe, seed, 0, None);
-        let mut probe = Probe::new(Config::default());
-        for (_, record) in Format::Probe.records(&stream) {
-            let record = record.unwrap();
-            let before = probe.device().clone();
-            probe.step(&record);
-            let after = probe.device();
-            let line = String::from_utf8(probe.line.as_bytes().to_vec()).unwrap();
+        each_step(Format::Probe, profile, seed, |record, before, program| {
+            let line = String::from_utf8(program.line.as_bytes().to_vec()).unwrap();
+            let after = program.device();
             let last: u8 = match record {
                 Record::Command { .. } | Record::Event { .. } => {
                     line.trim_end().rsplit(' ').next().unwrap().parse().unwrap()
                 }
-                _ => continue,
+                _ => return,
             };
-            let expected = expected_vector(&before, after);
+            let expected = expected_vector(before, after);
             assert_eq!(last, expected.unwrap_or(0), "{name}: {record:?}");
             vectors += usize::from(last != 0);
             if let Record::Command {
@@ -359,19 +356,19 @@ fn it_holds_after_generated_calls() {
                 payload,
                 time,
                 ..
-            } = &record
+            } = record
             {
                 let added = after.poison_list().held() > before.poison_list().held();
                 injections += usize::from(added);
                 let left = match added {
-                    true => reported(&before, payload, *time),
-                    false => before,
+                    true => reported(before, payload, *time),
+                    false => before.clone(),
                 };
                 for log in 0..5 {
                     assert_eq!(after.log(log), left.log(log), "{name}: {record:?}");
                 }
             }
-        }
+        });
     }
     assert!(vectors > 100 && injections > 500, "{vectors} {injections}");
 }

@@ -1,13 +1,15 @@
 //! Document 02, W-205, sentence by sentence: reserved places of Clear Event Records and
 //! modes of Set Event Interrupt Policy.
 
+mod common;
+
+use common::each_step;
 use reference::device::numbers::{opcode, Refusal};
 use reference::device::{Answered, Config, Device};
 use reference::format::Format;
 use reference::generate::profile_named;
 use reference::host::request::Request;
 use reference::probe::record::Record;
-use reference::probe::Probe;
 
 const SUCCESS: Result<Vec<u8>, Refusal> = Ok(Vec::new());
 const REFUSED: Result<Vec<u8>, Refusal> = Err(Refusal::InvalidInput);
@@ -395,20 +397,15 @@ fn it_holds_after_generated_calls() {
         .flat_map(|name| [(name, 1), (name, 2), (name, 3)])
     {
         let profile = profile_named(Format::Probe, name).unwrap();
-        let stream = profile.stream_of(Format::Probe, seed, 0, None);
-        let mut probe = Probe::new(Config::default());
-        for (_, record) in Format::Probe.records(&stream) {
-            let record = record.unwrap();
-            let before = probe.device().clone();
-            probe.step(&record);
+        each_step(Format::Probe, profile, seed, |record, before, after| {
             let Record::Command {
                 opcode: code,
                 room: 2048..,
                 payload,
                 ..
-            } = &record
+            } = record
             else {
-                continue;
+                return;
             };
             let reserved = match (*code, &payload[..]) {
                 (opcode::CLEAR_EVENT_RECORDS, [_, flags, n, a, b, c, handles @ ..])
@@ -419,13 +416,13 @@ fn it_holds_after_generated_calls() {
                 (opcode::SET_POLICY, settings) if [4, 5].contains(&settings.len()) => {
                     settings.iter().any(|setting| setting & 2 == 2)
                 }
-                _ => continue,
+                _ => return,
             };
-            let line = String::from_utf8_lossy(probe.line.as_bytes()).to_string();
+            let line = String::from_utf8_lossy(after.line.as_bytes()).to_string();
             taken += usize::from(line == "CM 0 0 - 1 0\n");
             if reserved {
                 assert_eq!(line, "CM 2 0 - 1 0\n", "{name}: {record:?}");
-                assert_eq!(*probe.device(), before, "{name}: {record:?}");
+                assert_eq!(after.device(), before, "{name}: {record:?}");
                 match *code {
                     opcode::SET_POLICY => sets += 1,
                     _ => clears += 1,
@@ -433,7 +430,7 @@ fn it_holds_after_generated_calls() {
             } else if *code == opcode::SET_POLICY {
                 assert_eq!(line, "CM 0 0 - 1 0\n", "{name}: {record:?}");
             }
-        }
+        });
     }
     assert!(
         clears > 300 && sets > 150 && taken > 500,
