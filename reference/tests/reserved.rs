@@ -20,9 +20,13 @@ const HANDLE: Result<Vec<u8>, Refusal> = Err(Refusal::InvalidHandle);
 const ENABLED: [u8; 5] = [0x21, 0x31, 0x41, 0x51, 0x01];
 
 /// A device whose log k has had so many event reports: log 0 is empty, 1 in part full, 2
-/// full, 3 overflown, 4 holds one record.
+/// full, 3 overflown, 4 holds one record. Clock, policy and poison list are not those of
+/// a new device either, so that a refusal that loses them shows.
 fn device() -> Device {
     let mut device = Device::make(1, 0, Config::default()).1;
+    device.answer(opcode::SET_TIMESTAMP, &[9; 8], 0).unwrap();
+    set(&mut device, &[1, 0, 0, 1, 1]).unwrap();
+    device.media_report(128, 3, 1, 0).unwrap();
     for (log, reports) in [0, 3, 8, 11, 1].into_iter().enumerate() {
         for time in 0..reports {
             device.event_report(log as u8, &[0x5a; 128], time).unwrap();
@@ -127,6 +131,20 @@ fn every_reserved_byte() {
         pairs.map(|bytes| payload(1, 0, bytes, &[1])).into(),
         REFUSED,
     );
+}
+
+/// A flag bit and a reserved byte set together, each with each, where the clear is right
+/// otherwise: by handles, without handles and by Clear All.
+#[test]
+fn a_flag_bit_and_a_reserved_byte_together() {
+    for bit in 1..8 {
+        for reserved in [[1, 0, 0], [0, 0x80, 0], [0, 0, 0xff]] {
+            let clears = [(1, 0, vec![1]), (1, 0, vec![]), (3, 1, vec![])];
+            let both = clears
+                .map(|(log, flags, handles)| payload(log, flags | 1 << bit, reserved, &handles));
+            all_refused(both.into(), REFUSED);
+        }
+    }
 }
 
 /// What was refused goes where the reserved places are zero: the records and handles are

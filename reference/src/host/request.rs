@@ -132,6 +132,7 @@ impl Request {
             false => put(Ok(payload), room, config),
         }
     }
+
     /// Whether W-205 has the device refuse it for its flags or modes (for a planted fault).
     fn refused_when_sent(&self) -> bool {
         match self {
