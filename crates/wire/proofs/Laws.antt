@@ -6,6 +6,7 @@ use Prim.Native.Nat.{ℕ, zero, suc, _+_, _-_, _*_, _/_, _%_, _^_, _≤_, _<_}
 use native.Mathlib.Nat.{add-zero, add-suc, suc-add}
 use native.Mathlib.Numerals.{add-one}
 use native.Mathlib.Omega.{arith}
+use native.Mathlib.Decide.{ℕ-discrete}
 use lib.ListN.{length, take, drop, getD, set, length-take, length-drop}
 use lib.Seq.{sets, sets-eq, length-sets, drop-cons, take-all}
 use lib.Pow.{pow-add}
@@ -64,6 +65,25 @@ field-step xs at k e h = ap number (part-step at k xs e h)
 pub field-none : (xs : List ℕ) (at : ℕ) → field xs at 0 ≡ 0
 unfolding field number part
 field-none xs at = refl
+
+-- a number is 0 exactly where each of its bytes is: from a 0 to the bytes,
+at-or-past : (xs : List ℕ) {i at : ℕ} → Dec (i ≡ at) → getD xs at 0 ≡ 0 → ((i ≡ at → ⊥) → getD xs i 0 ≡ 0) → getD xs i 0 ≡ 0
+at-or-past xs (yes e) first rest = ap (λ (x : ℕ). getD xs x 0) e ∙ first
+at-or-past xs (no f) first rest = rest f
+
+pub bytes-zero : (xs : List ℕ) (k at : ℕ) → at + k ≤ length xs → field xs at k ≡ 0 → (i : ℕ) → at ≤ i → i < at + k → getD xs i 0 ≡ 0
+bytes-zero xs zero at long e i from to = absurd (omega arith)
+bytes-zero xs (suc k) at long e i from to =
+    let sum : field xs (at + 1) k * 256 + getD xs at 0 ≡ 0 = sym (field-step xs at k (sym (add-one k)) (omega arith)) ∙ e in
+    at-or-past xs (ℕ-discrete i at) (omega (arith, sum)) (λ f. bytes-zero xs k (at + 1) (omega arith) (omega (arith, sum)) i (omega (arith, f)) (omega arith))
+
+-- and from the bytes to a 0
+pub zero-bytes : (xs : List ℕ) (k at : ℕ) → at + k ≤ length xs → ((i : ℕ) → at ≤ i → i < at + k → getD xs i 0 ≡ 0) → field xs at k ≡ 0
+zero-bytes xs zero at long each = field-none xs at
+zero-bytes xs (suc k) at long each =
+    let high = zero-bytes xs k (at + 1) (omega arith) (λ i from to. each i (omega arith) (omega arith)) in
+    let low = each at (omega arith) (omega arith) in
+    field-step xs at k (sym (add-one k)) (omega arith) ∙ omega (arith, high, low)
 
 -- a byte more than a number of k bytes
 pub byte-more : (k r b : ℕ) {j : ℕ} → j ≡ k + 1 → r < 256 ^ k → b < 256 → r * 256 + b < 256 ^ j
