@@ -14,7 +14,7 @@ use Rattle.poison.specs.Clear.{after-clear, Clears}
 use Rattle.poison.specs.Range.{sharing, records-bytes, Wrote}
 use Rattle.poison.specs.declared.list.PoisonList.{PoisonList}
 use Rattle.poison.proofs.Laws.{valid-more, slots-more, length-records, adds-taken}
-use Rattle.mailbox.specs.declared.outcome.Done.{Done}
+use Rattle.wire.specs.declared.done.Done.{Done}
 use Rattle.mailbox.specs.declared.device.Device.{Device}
 use Rattle.mailbox.specs.declared.vector.Vector.the-variants.{None}
 use Rattle.wire.specs.Returns.{success, inject-limit, need}

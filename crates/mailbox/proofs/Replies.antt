@@ -9,7 +9,7 @@ use lib.ListN.{length, take, drop, length-take, length-append}
 use lib.Seq.{drop-at}
 use Rattle.wire.specs.Wire.{splice}
 use Rattle.wire.proofs.Laws.{joined}
-use Rattle.mailbox.specs.declared.outcome.Done.{Done}
+use Rattle.wire.specs.declared.done.Done.{Done}
 use Rattle.mailbox.specs.Outcome.{Reply, replied, no-reply}
 use Rattle.mailbox.specs.Contracts.{Replied}
 

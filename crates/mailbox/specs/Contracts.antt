@@ -12,7 +12,6 @@ use Rattle.poison.specs.declared.list.PoisonList.{PoisonList}
 use Rattle.poison.specs.LineTest.{answer-number, answer-type}
 use Rattle.events.specs.declared.status.Status.{Status}
 use Rattle.events.specs.Status.{StatusOutcome}
-use Rattle.mailbox.specs.declared.outcome.Done.{Done}
 use Rattle.mailbox.specs.declared.policy.PolicySet.{PolicySet}
 use Rattle.mailbox.specs.declared.device.Device.{Device}
 use Rattle.mailbox.specs.declared.device.Made.{Made}
@@ -26,12 +25,8 @@ use Rattle.mailbox.specs.Outcome.{Reply, Outcome}
 use Rattle.mailbox.specs.Policy.{PolicyChange}
 use Rattle.mailbox.specs.PoisonCommands.{ListChange, inject-poison, inject-adds}
 use Rattle.mailbox.specs.DeviceCalls.{MakeOutcome, EventOutcome, MediaOutcome, LineOutcome}
-
 -- a command that reads, with the reply buffer before and after it: "On Success of length n the first n reply bytes are written, the others stay."
-pub record Replied (o : Reply) (r : Done) (before after : List ℕ) : Type 0 where
-  pub code : r .code ≡ o .code
-  pub size : r .length ≡ length (o .bytes)
-  pub bytes : after ≡ splice 0 (o .bytes) before
+pub use Rattle.wire.specs.Done.{Writes as Replied}
 
 -- Set Event Interrupt Policy: its number, and the settings that follow
 pub record PolicyDone (o : PolicyChange) (r : PolicySet) : Type 0 where

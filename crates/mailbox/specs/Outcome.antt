@@ -2,20 +2,10 @@
 -- Assumes nothing.
 use Prim.Native.Nat.{ℕ}
 use mathlib.Core.List.{List, []}
-use Rattle.wire.specs.Returns.{success}
 use Rattle.mailbox.specs.State.{DeviceState}
 use Rattle.mailbox.specs.Vector.{no-vector}
-
--- what a command that reads gives: "Every non-zero number returns reply length 0"
-pub record Reply : Type 0 where
-  pub code : ℕ
-  pub bytes : List ℕ
-
-abbrev pub replied : List ℕ → Reply
-replied bytes = record { code = success; bytes = bytes }
-
-abbrev pub no-reply : ℕ → Reply
-no-reply code = record { code = code; bytes = [] }
+-- what a command that reads gives, a number and its reply: "Every non-zero number returns reply length 0"
+pub use Rattle.wire.specs.Done.{Written as Reply, written as replied, refused as no-reply}
 
 -- what any command gives: its number, its reply, the vector to raise (document 02, W-204) and the device that follows
 pub record Outcome : Type 0 where

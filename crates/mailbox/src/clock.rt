@@ -1,5 +1,5 @@
 // The clock (document 01, "Clock"), Get Timestamp and Set Timestamp.
-use crate::outcome::Done;
+use wire::done::Done;
 use wire::returns;
 ghost use mathlib.Core.Path.{_≡_};
 ghost use Prim.Native.Nat.{_≤_};

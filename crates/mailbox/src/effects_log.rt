@@ -1,5 +1,5 @@
 // The Command Effects Log, Get Supported Logs and Get Log (document 01, "Logs and identity").
-use crate::outcome::Done;
+use wire::done::Done;
 use wire::returns;
 ghost use mathlib.Core.Path.{_≡_};
 ghost use Prim.Native.Nat.{_≤_};

@@ -9,7 +9,6 @@ pub mod device;
 pub mod device_calls;
 mod effects_log;
 mod identity;
-mod outcome;
 mod poison_commands;
 mod policy;
 pub mod vector;

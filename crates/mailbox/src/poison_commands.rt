@@ -1,9 +1,9 @@
 // The poison commands: the checks of an address, then the poison list's own functions (document 01, "Poison list"). No sum of an address and a
 // number of lines is made in 64 bits before it is known to fit: "Sums are of whole numbers."
-use crate::outcome::Done;
 use poison::clear;
 use poison::inject;
 use poison::range;
+use wire::done::Done;
 use wire::returns;
 ghost use mathlib.Core.Path.{_≡_};
 ghost use mathlib.Core.Bool.{Bool, cond};

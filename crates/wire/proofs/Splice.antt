@@ -1,9 +1,9 @@
 -- Reading after a splice, over any width and offset: what was written is read back, and what lies elsewhere is as before. And in one list appended to another: each
 -- is read as it is by itself. Assumes nothing.
 use mathlib.Core.Path.{_≡_, refl, sym, ap, _∙_}
-use mathlib.Core.List.{List, _++_, append-assoc}
+use mathlib.Core.List.{List, [], _∷_, _++_, append-assoc, append-nil}
 use Prim.Native.Nat.{ℕ, zero, suc, _+_, _-_, _*_, _/_, _%_, _^_, _≤_, _<_}
-use native.Mathlib.Nat.{div-add-mod', div-lt-iff-lt-mul, pow-suc, zero-lt-suc}
+use native.Mathlib.Nat.{add-zero, div-add-mod', div-lt-iff-lt-mul, pow-suc, zero-lt-suc}
 use native.Mathlib.Omega.{arith}
 use lib.ListN.{length, take, drop, length-take, length-drop, length-append, take-append-drop}
 use lib.Seq.{take-append-le, drop-append-le, drop-append-add, drop-drop, take-at, take-all, drop-at}
@@ -35,6 +35,12 @@ part-written at bs xs h =
     let long : length (take at xs) ≡ at = simp length-take (omega arith) in
     rw append-assoc
     (ap (take (length bs)) (drop-at (take at xs) (bs ++ drop (at + length bs) xs) at long) ∙ take-at bs (drop (at + length bs) xs) (length bs) refl)
+
+-- no elements in place of none: the list as it was
+pub nothing-written : (at : ℕ) (bs xs : List ℕ) → length bs ≡ 0 → splice at bs xs ≡ xs
+unfolding splice
+nothing-written at [] xs e = rw (append-nil, add-zero) (take-append-drop at xs)
+nothing-written at (b ∷ bs) xs e = absurd (omega arith)
 
 -- a part of the first elements of a list does not see what follows them
 pub part-front : (i k : ℕ) (a b : List ℕ) → i + k ≤ length a → part i k (a ++ b) ≡ part i k a

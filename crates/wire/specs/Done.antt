@@ -1,5 +1,5 @@
--- What a call that writes to a lent room gives (document 02, W-202): a return number and the bytes written, none where it refuses: "each leaving the caller's room
--- unaltered". Assumes nothing.
+-- What a call that writes to a lent room gives, a command of the mailbox that replies (document 01, "Return numbers") or a call of the host's library (document 02, W-202): a return
+-- number and the bytes written, none where it refuses: "each leaving the caller's room unaltered". Assumes nothing.
 use Prim.Native.Nat.{ℕ}
 use mathlib.Core.Path.{_≡_}
 use mathlib.Core.List.{List, []}
