@@ -1,6 +1,6 @@
 /*
- * One guest's memory device in a hypervisor: the mailbox registers, the doorbell, the interrupts, the read path, and the incident that
- * Kulduvost is there for, replayed. Exits with 1 if anything is not as expected.
+ * One guest's memory device in a hypervisor: the mailbox registers, the doorbell, the interrupts, the read path, the label area, and the
+ * incident that Kulduvost is there for, replayed. Exits with 1 if anything is not as expected.
  *
  *   cc -std=c11 -I OUT/include examples/host.c OUT/lib/libkulduvost.a -o host        (OUT: where tests/library wrote)
  */
@@ -25,6 +25,7 @@ struct guest {
     kulduvost_device device;
     struct mailbox mailbox;
     uint8_t *memory; /* the bytes that the device stands for: the caller's, not the library's */
+    uint8_t labels[KULDUVOST_LABEL_AREA_SIZE]; /* the label area: the caller's too, the same with every command */
     unsigned raised[KULDUVOST_VECTOR_FATAL + 1]; /* how often each vector was raised */
 };
 
@@ -110,8 +111,8 @@ static kulduvost_command_answer mailbox_run(struct guest *guest) {
         return (kulduvost_command_answer){.code = KULDUVOST_INVALID_PAYLOAD_LENGTH, .vector = KULDUVOST_VECTOR_NONE, .length = 0};
     }
     memcpy(request, mailbox->payload, length);
-    kulduvost_command_answer done =
-        kulduvost_command(&guest->device, opcode, request, length, now(), mailbox->payload, sizeof mailbox->payload);
+    kulduvost_command_answer done = kulduvost_command(&guest->device, opcode, request, length, now(), guest->labels, sizeof guest->labels,
+                                                      mailbox->payload, sizeof mailbox->payload);
     if (done.code == KULDUVOST_SUCCESS && opcode == KULDUVOST_CLEAR_POISON) {
         /* document 01: after a Clear Poison answered Success the caller writes payload bytes 8 to 71 to the line; Success says that the
          * address is aligned and inside the device */
@@ -219,6 +220,21 @@ static void injection_and_its_interrupt(struct guest *guest) {
            "the guest clears lines 9 and 11: a clear raises no interrupt");
 }
 
+/* The guest writes the label of a namespace and reads it back. */
+static void label_written_and_read(struct guest *guest) {
+    static const char label[] = "namespace 0";
+    uint8_t set[8 + sizeof label], get[8];
+    store64(set, 256); /* offset 4, reserved 4 */
+    memcpy(set + 8, label, sizeof label);
+    store64(get, 256 | (uint64_t)sizeof label << 32); /* offset 4, length 4 */
+    expect(guest_sends(guest, KULDUVOST_SET_LSA, set, sizeof set) == KULDUVOST_SUCCESS, "the guest writes a label at byte 256");
+    expect(guest_sends(guest, KULDUVOST_GET_LSA, get, sizeof get) == KULDUVOST_SUCCESS &&
+               memcmp(guest->mailbox.payload, label, sizeof label) == 0,
+           "the guest reads it back");
+    store64(get, (KULDUVOST_LABEL_AREA_SIZE - 1) | (uint64_t)2 << 32);
+    expect(guest_sends(guest, KULDUVOST_GET_LSA, get, sizeof get) == KULDUVOST_INVALID_INPUT, "a read past the label area's end is refused");
+}
+
 /* In spring a poison list was full; one more report of damage was dropped, and the line read as clean. */
 static void incident(struct guest *guest) {
     uint8_t line[KULDUVOST_LINE_SIZE];
@@ -243,6 +259,7 @@ int main(void) {
     }
     one_line_damaged_and_cleared(guest);
     injection_and_its_interrupt(guest);
+    label_written_and_read(guest);
     incident(guest);
     guest_free(guest);
     return all_as_expected ? 0 : 1;

@@ -1,20 +1,23 @@
 /*
- * Kulduvost: a CXL Type 3 mailbox device (poison list, event logs, twelve commands) behind a pointer. C11 and C++11, x86-64 System V.
- * Link with libkulduvost.a; `tests/library OUT` writes both. The rules are those of the project's documents 01 and 02 (the requests that
- * have landed); their words stand below.
+ * Kulduvost: a CXL Type 3 mailbox device (poison list, event logs, label storage, fourteen commands) behind a pointer. C11 and C++11,
+ * x86-64 System V. Link with libkulduvost.a; `tests/library OUT` writes both. The rules are those of the project's documents 01 and 02
+ * (the requests that have landed); their words stand below.
  *
  * What the caller owes, and nothing checks:
  *  - A device lies in memory of KULDUVOST_DEVICE_SIZE bytes, aligned to KULDUVOST_DEVICE_ALIGN, that is all zero before kulduvost_make
  *    (calloc does). After kulduvost_make it is changed by these calls alone.
  *  - One call at a time on a device, those that only read it included. Different devices are independent: there is no global state, no
  *    lock and no allocation.
- *  - The device and the buffers of a call do not overlap, and nobody else uses them during the call.
+ *  - The device and what a call is lent (payload or record, label area, reply buffer) do not overlap, and nobody else uses them during the
+ *    call.
+ *  - The label area is the caller's, who keeps it and lends it with each command: KULDUVOST_LABEL_AREA_SIZE bytes, whatever they hold. The
+ *    library keeps none, and make knows of none: labels last where the same area is lent each time and nobody writes it between.
  *  - Lengths are true, and a pointer is not null even where its length is 0.
  *
  * What every call promises:
  *  - It ends and gives a defined answer, whatever its arguments.
- *  - A refusal (code not 0) leaves the device and every byte of the reply buffer as they were; a make alone leaves a new device, as said
- *    there. Refusals are listed in their order: the first that applies is given.
+ *  - A refusal (code not 0) leaves the device, every byte of the reply buffer and every byte of the label area as they were; a make alone
+ *    leaves a new device, as said there. Refusals are listed in their order: the first that applies is given.
  *  - A damaged record blocks, never permits: serve a read only where kulduvost_line_test gives code KULDUVOST_SUCCESS with answer
  *    KULDUVOST_CLEAN. Any other pair blocks.
  *  - The answer of a call that stores an event says which interrupt to raise (enum kulduvost_vector). The library raises none itself and
@@ -56,6 +59,7 @@ extern "C" {
 #define KULDUVOST_EVENT_RECORD_SIZE 128  /* bytes of an event record */
 #define KULDUVOST_EVENT_LOG_RECORDS 8    /* records that a log has room for */
 #define KULDUVOST_POISON_ENTRIES 256     /* entries that the poison list has room for */
+#define KULDUVOST_LABEL_AREA_SIZE 4096   /* bytes of the label area, no fewer and no more (document 02, W-206) */
 
 /* ---- Return numbers */
 enum kulduvost_code {
@@ -67,7 +71,7 @@ enum kulduvost_code {
     KULDUVOST_INJECT_POISON_LIMIT = 0x0010,
     KULDUVOST_INVALID_PAYLOAD_LENGTH = 0x0016,
     KULDUVOST_INVALID_LOG = 0x0017,
-    KULDUVOST_REPLY_BUFFER_TOO_SMALL = 0x0100 /* house: reply buffer under 2,048 bytes */
+    KULDUVOST_REPLY_BUFFER_TOO_SMALL = 0x0100 /* house: reply buffer under 2,048 bytes, or label area not 4,096 */
 };
 
 /* ---- Opcodes, each with its payload (field and bytes), the command's own refusals in their order, and its reply on Success */
@@ -91,11 +95,18 @@ enum kulduvost_opcode {
     KULDUVOST_SET_TIMESTAMP = 0x0301,
     /* No payload. Reply: 28 bytes that name the Command Effects Log. */
     KULDUVOST_GET_SUPPORTED_LOGS = 0x0400,
-    /* identifier 16, offset 4, length 4. Other identifier: 0017h; length over 2,048, or offset plus length over the log's 48 bytes:
+    /* identifier 16, offset 4, length 4. Other identifier: 0017h; length over 2,048, or offset plus length over the log's 56 bytes:
      * 0002h. Reply: those bytes of the Command Effects Log. */
     KULDUVOST_GET_LOG = 0x0401,
     /* No payload. Reply: 69 bytes. */
     KULDUVOST_IDENTIFY = 0x4000,
+    /* offset 4, length 4. Length over 2,048, or offset plus length over 4,096: 0002h. Reply: those bytes of the label area. */
+    KULDUVOST_GET_LSA = 0x4102,
+    /* offset 4, reserved 4, data. Payload under 8 bytes: 0016h; a reserved byte not zero, or offset plus the length of the data over 4,096:
+     * 0002h. Success writes the data to the label area from the offset on, and no other byte of the area; without data, no byte. No reply.
+     * After a Set, where all are accepted and nobody writes the area between, a Get of the same range gives the data back, and a Get of a
+     * range apart from it gives what it gave just before the Set. */
+    KULDUVOST_SET_LSA = 0x4103,
     /* address 8, lines 8. Unaligned: 0002h; end past the device: 000Fh. Reply: 32 bytes, then 16 for each of up to 126 records. */
     KULDUVOST_GET_POISON_LIST = 0x4300,
     /* address 8. Unaligned: 0002h; outside: 000Fh; line not covered and 256 entries held: 0010h. No reply. An injection that adds an entry
@@ -181,13 +192,14 @@ typedef struct kulduvost_event_status_answer {
 uint16_t kulduvost_make(kulduvost_device *device, uint16_t volatile_units, uint16_t persistent_units);
 
 /*
- * A command of the mailbox. On Success of length n the first n bytes of the reply buffer are written, the others stay. The vector to raise
- * is that of the event that an Inject Poison reports, none for the other commands. Refused: reply room under 2,048 bytes, 0100h; payload
- * over 2,048 bytes, 0016h; opcode not one of the twelve, 0003h; payload length not the command's, 0016h; then the command's own checks, as
+ * A command of the mailbox. On Success of length n the first n bytes of the reply buffer are written, the others stay. A Set LSA writes its
+ * data to the label area; no other command writes the area. The vector to raise is that of the event that an Inject Poison reports, none
+ * for the other commands. Refused: reply room under 2,048 bytes or label area not 4,096 bytes, whatever the command, 0100h; payload over
+ * 2,048 bytes, 0016h; opcode not one of the fourteen, 0003h; payload length not the command's, 0016h; then the command's own checks, as
  * listed at its opcode.
  */
 kulduvost_command_answer kulduvost_command(kulduvost_device *device, uint16_t opcode, const uint8_t *payload, size_t payload_length,
-                                           uint64_t time, uint8_t *reply, size_t reply_room);
+                                           uint64_t time, uint8_t *area, size_t area_size, uint8_t *reply, size_t reply_room);
 
 /*
  * Event report. Below eight held, the record is stored last in the log, with bytes 20 and 21 set to the log's next handle and bytes 24

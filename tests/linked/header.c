@@ -26,12 +26,22 @@ static void expect(bool holds, const char *what) {
 
 static bool aligned(const void *at) { return (uintptr_t)at % KULDUVOST_DEVICE_ALIGN == 0; }
 
+/* A label area with a byte after it, and a reply buffer. */
+static uint8_t area[KULDUVOST_LABEL_AREA_SIZE + 1], reply[KULDUVOST_MAILBOX_SIZE];
+
+/* A command that is lent what it needs. */
+static kulduvost_command_answer command(kulduvost_device *device, uint16_t opcode, const uint8_t *payload, size_t length) {
+    return kulduvost_command(device, opcode, payload, length, 0, area, KULDUVOST_LABEL_AREA_SIZE, reply, sizeof reply);
+}
+
 /* Each function once, with an answer that document 01 states for a new device of one volatile unit. */
 static void calls(kulduvost_device *device) {
     uint8_t bytes[KULDUVOST_MAILBOX_SIZE] = {0};
     uint8_t record[KULDUVOST_EVENT_RECORD_SIZE] = {0};
+    uint8_t labels[KULDUVOST_LABEL_AREA_SIZE] = {0};
     expect(kulduvost_make(device, 1, 0) == KULDUVOST_SUCCESS, "make");
-    kulduvost_command_answer done = kulduvost_command(device, KULDUVOST_IDENTIFY, record, 0, 0, bytes, sizeof bytes);
+    kulduvost_command_answer done =
+        kulduvost_command(device, KULDUVOST_IDENTIFY, record, 0, 0, labels, sizeof labels, bytes, sizeof bytes);
     expect(done.code == KULDUVOST_SUCCESS && done.vector == KULDUVOST_VECTOR_NONE && done.length == 69 &&
                memcmp(bytes, "BWFW VERSION 0", 15) == 0,
            "command");
@@ -66,20 +76,24 @@ static void units_and_lines(kulduvost_device *device) {
 }
 
 static void mailbox(kulduvost_device *device) {
-    static uint8_t payload[KULDUVOST_MAILBOX_SIZE + 1], reply[KULDUVOST_MAILBOX_SIZE];
+    static uint8_t payload[KULDUVOST_MAILBOX_SIZE + 1];
+    const size_t size = KULDUVOST_LABEL_AREA_SIZE, long_by_one = sizeof payload;
     uint8_t clear[8] = {KULDUVOST_LOG_INFO, 0, 1, 0, 0, 0, 1, 0};
     made(device, 1, 0);
-    expect(kulduvost_command(device, 0x7777, payload, sizeof payload, 0, reply, sizeof reply - 1).code == KULDUVOST_REPLY_BUFFER_TOO_SMALL,
+    expect(kulduvost_command(device, 0x7777, payload, long_by_one, 0, area, size, reply, sizeof reply - 1).code ==
+               KULDUVOST_REPLY_BUFFER_TOO_SMALL,
            "a reply buffer that is too small");
-    expect(kulduvost_command(device, 0x7777, payload, sizeof payload, 0, reply, sizeof reply).code == KULDUVOST_INVALID_PAYLOAD_LENGTH,
-           "a payload that is too long");
-    expect(kulduvost_command(device, 0x7777, payload, sizeof payload - 1, 0, reply, sizeof reply).code == KULDUVOST_UNSUPPORTED_OPCODE,
-           "an opcode that is not one of the twelve");
-    expect(kulduvost_command(device, KULDUVOST_GET_LOG, payload, 24, 0, reply, sizeof reply).code == KULDUVOST_INVALID_LOG,
-           "another log identifier");
-    expect(kulduvost_command(device, KULDUVOST_CLEAR_EVENT_RECORDS, clear, sizeof clear, 0, reply, sizeof reply).code ==
-               KULDUVOST_INVALID_HANDLE,
-           "a handle of no record");
+    expect(kulduvost_command(device, 0x7777, payload, long_by_one, 0, area, size - 1, reply, sizeof reply).code ==
+               KULDUVOST_REPLY_BUFFER_TOO_SMALL,
+           "a label area that is too small");
+    expect(kulduvost_command(device, 0x7777, payload, long_by_one, 0, area, size + 1, reply, sizeof reply).code ==
+               KULDUVOST_REPLY_BUFFER_TOO_SMALL,
+           "a label area that is too great");
+    expect(command(device, 0x7777, payload, long_by_one).code == KULDUVOST_INVALID_PAYLOAD_LENGTH, "a payload that is too long");
+    expect(command(device, 0x7777, payload, long_by_one - 1).code == KULDUVOST_UNSUPPORTED_OPCODE,
+           "an opcode that is not one of the fourteen");
+    expect(command(device, KULDUVOST_GET_LOG, payload, 24).code == KULDUVOST_INVALID_LOG, "another log identifier");
+    expect(command(device, KULDUVOST_CLEAR_EVENT_RECORDS, clear, sizeof clear).code == KULDUVOST_INVALID_HANDLE, "a handle of no record");
 }
 
 static void event_logs(kulduvost_device *device) {
@@ -95,12 +109,65 @@ static void event_logs(kulduvost_device *device) {
     expect(full.code == KULDUVOST_SUCCESS && !full.stored, "a full log");
 }
 
+/* ---- The label area (document 02, W-206) */
+static void put(uint8_t *to, uint32_t number) {
+    for (size_t i = 0; i < 4; i++) {
+        to[i] = (uint8_t)(number >> 8 * i);
+    }
+}
+
+static uint16_t get_labels(kulduvost_device *device, uint32_t offset, uint32_t length) {
+    uint8_t payload[8];
+    put(payload, offset);
+    put(payload + 4, length);
+    kulduvost_command_answer done = command(device, KULDUVOST_GET_LSA, payload, sizeof payload);
+    expect(done.vector == KULDUVOST_VECTOR_NONE && done.length == (done.code == KULDUVOST_SUCCESS ? length : 0), "the answer of a Get");
+    return done.code;
+}
+
+/* Four bytes of data, 1 to 4, in an area that is `size` bytes long. */
+static uint16_t set_labels(kulduvost_device *device, uint32_t offset, uint8_t reserved, size_t size) {
+    uint8_t payload[12] = {0, 0, 0, 0, 0, 0, 0, reserved, 1, 2, 3, 4};
+    put(payload, offset);
+    kulduvost_command_answer done =
+        kulduvost_command(device, KULDUVOST_SET_LSA, payload, sizeof payload, 0, area, size, reply, sizeof reply);
+    expect(done.vector == KULDUVOST_VECTOR_NONE && done.length == 0, "the answer of a Set");
+    return done.code;
+}
+
+/* At the end of an area that has 9 in every byte before. */
+static void label_area(kulduvost_device *device) {
+    const uint32_t size = KULDUVOST_LABEL_AREA_SIZE, most = KULDUVOST_MAILBOX_SIZE;
+    static uint8_t expected[KULDUVOST_LABEL_AREA_SIZE + 1];
+    made(device, 1, 0);
+    memset(area, 9, sizeof area);
+    memset(expected, 9, sizeof expected);
+    expect(set_labels(device, size - 4, 0, size - 1) == KULDUVOST_REPLY_BUFFER_TOO_SMALL, "a Set in an area that is too small");
+    expect(set_labels(device, size - 4, 0, size + 1) == KULDUVOST_REPLY_BUFFER_TOO_SMALL, "a Set in an area that is too great");
+    expect(set_labels(device, size - 3, 0, size) == KULDUVOST_INVALID_INPUT, "a Set past the end");
+    expect(set_labels(device, size - 4, 1, size) == KULDUVOST_INVALID_INPUT, "a Set with a reserved byte");
+    expect(command(device, KULDUVOST_SET_LSA, expected, 7).code == KULDUVOST_INVALID_PAYLOAD_LENGTH, "a Set that is too short");
+    expect(command(device, KULDUVOST_GET_LSA, expected, 9).code == KULDUVOST_INVALID_PAYLOAD_LENGTH, "a Get that is too long");
+    expect(memcmp(area, expected, sizeof area) == 0, "a refusal leaves the area");
+    expect(set_labels(device, size - 4, 0, size) == KULDUVOST_SUCCESS, "a Set up to the end");
+    for (uint8_t i = 1; i <= 4; i++) {
+        expected[size - 5 + i] = i;
+    }
+    expect(memcmp(area, expected, sizeof area) == 0, "the data in its place, and no other byte");
+    expect(get_labels(device, size - 5, 5) == KULDUVOST_SUCCESS && memcmp(reply, expected + size - 5, 5) == 0, "a Get up to the end");
+    expect(get_labels(device, size - 5, 6) == KULDUVOST_INVALID_INPUT, "a Get past the end");
+    expect(get_labels(device, size - most, most) == KULDUVOST_SUCCESS && memcmp(reply, expected + size - most, most) == 0,
+           "the longest Get");
+    expect(get_labels(device, 0, most + 1) == KULDUVOST_INVALID_INPUT, "a longer one");
+    expect(command(device, KULDUVOST_IDENTIFY, expected, 0).length == 69 && reply[56] == (size & 255) && reply[57] == size >> 8 &&
+               reply[58] == 0 && reply[59] == 0,
+           "the label size of Identify");
+}
+
 /* ---- The vectors that the header states (documents 01, "Event logs", and 02, W-204) */
 static uint16_t enable_all(kulduvost_device *device) {
-    static uint8_t reply[KULDUVOST_MAILBOX_SIZE];
     const uint8_t policy[KULDUVOST_EVENT_LOGS] = {1, 1, 1, 1, 1};
-    kulduvost_command_answer done =
-        kulduvost_command(device, KULDUVOST_SET_EVENT_INTERRUPT_POLICY, policy, sizeof policy, 0, reply, sizeof reply);
+    kulduvost_command_answer done = command(device, KULDUVOST_SET_EVENT_INTERRUPT_POLICY, policy, sizeof policy);
     expect(done.vector == KULDUVOST_VECTOR_NONE, "no vector for enabling");
     return done.code;
 }
@@ -112,9 +179,8 @@ static bool raises(kulduvost_device *device, uint8_t log, uint8_t vector) {
 }
 
 static bool injection_raises(kulduvost_device *device, uint64_t line, uint8_t vector) {
-    static uint8_t reply[KULDUVOST_MAILBOX_SIZE];
     uint8_t payload[8] = {(uint8_t)(line * KULDUVOST_LINE_SIZE)};
-    kulduvost_command_answer done = kulduvost_command(device, KULDUVOST_INJECT_POISON, payload, sizeof payload, 0, reply, sizeof reply);
+    kulduvost_command_answer done = command(device, KULDUVOST_INJECT_POISON, payload, sizeof payload);
     return done.code == KULDUVOST_SUCCESS && done.vector == vector && done.length == 0;
 }
 
@@ -141,16 +207,14 @@ static void vectors(kulduvost_device *device) {
 }
 
 static void poison_entries(kulduvost_device *device) {
-    static uint8_t payload[8], reply[KULDUVOST_MAILBOX_SIZE];
+    static uint8_t payload[8];
     uint32_t stored = 0;
     made(device, 1, 0);
     for (uint32_t i = 1; i <= KULDUVOST_POISON_ENTRIES; i++) {
         stored += kulduvost_media_report(device, 0, (uint64_t)2 * i * KULDUVOST_LINE_SIZE, 1, 0).stored;
     }
     expect(stored == KULDUVOST_POISON_ENTRIES, "a poison list with room");
-    expect(kulduvost_command(device, KULDUVOST_INJECT_POISON, payload, sizeof payload, 0, reply, sizeof reply).code ==
-               KULDUVOST_INJECT_POISON_LIMIT,
-           "a full poison list");
+    expect(command(device, KULDUVOST_INJECT_POISON, payload, sizeof payload).code == KULDUVOST_INJECT_POISON_LIMIT, "a full poison list");
 }
 
 int main(void) {
@@ -167,6 +231,7 @@ int main(void) {
         calls(&heap[1]);
         units_and_lines(&heap[0]);
         mailbox(&heap[0]);
+        label_area(&heap[0]);
         event_logs(&heap[0]);
         vectors(&heap[0]);
         poison_entries(&heap[0]);

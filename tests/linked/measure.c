@@ -20,7 +20,8 @@ enum { ROUNDS = 15 };
 
 static kulduvost_device *device;        /* on which the calls are made */
 static kulduvost_device before;         /* what it is put back to before each run */
-static uint8_t payload[72], reply[KULDUVOST_MAILBOX_SIZE], record[KULDUVOST_EVENT_RECORD_SIZE];
+static uint8_t payload[KULDUVOST_MAILBOX_SIZE], reply[KULDUVOST_MAILBOX_SIZE], record[KULDUVOST_EVENT_RECORD_SIZE];
+static uint8_t labels[KULDUVOST_LABEL_AREA_SIZE];
 static volatile uint64_t sink;          /* so that no answer is thrown away */
 
 /* ---- The line test in plain C */
@@ -92,7 +93,7 @@ static void put(uint8_t *to, uint64_t number, size_t bytes) {
 }
 
 static void command(uint16_t opcode, size_t length) {
-    sink = kulduvost_command(device, opcode, payload, length, 1000, reply, sizeof reply).length;
+    sink = kulduvost_command(device, opcode, payload, length, 1000, labels, sizeof labels, reply, sizeof reply).length;
 }
 
 /* A random line of the device, never the same sequence twice: a repeated one would be learned by the processor's branch prediction. The
@@ -124,9 +125,21 @@ static void unknown_opcode(void) { command(0x7777, 0); }
 
 static void get_log(void) {
     static const uint8_t whole[24] = {0x0d, 0xa9, 0xc0, 0xb5, 0xbf, 0x41, 0x4b, 0x78, 0x8f, 0x79, 0x96, 0xb1,
-                                      0x62, 0x3b, 0x3f, 0x17, 0,    0,    0,    0,    48,   0,    0,    0};
+                                      0x62, 0x3b, 0x3f, 0x17, 0,    0,    0,    0,    56,   0,    0,    0};
     memcpy(payload, whole, sizeof whole);
     command(KULDUVOST_GET_LOG, sizeof whole);
+}
+
+/* the longest that there are, from the area's first byte on */
+static void get_labels(void) {
+    put(payload, 0, 4);
+    put(payload + 4, KULDUVOST_MAILBOX_SIZE, 4);
+    command(KULDUVOST_GET_LSA, 8);
+}
+
+static void set_labels(void) {
+    put(payload, 0, 8);
+    command(KULDUVOST_SET_LSA, KULDUVOST_MAILBOX_SIZE);
 }
 
 static void get_poison_list(void) {
@@ -200,6 +213,8 @@ static const struct kind {
     {"Identify", 255, MANY, identify},
     {"Get Supported Logs", 255, MANY, get_supported_logs},
     {"Get Log, all of it", 255, MANY, get_log},
+    {"Get LSA, 2,048 bytes", 255, MANY, get_labels},
+    {"Set LSA, 2,040 bytes of data", 255, MANY, set_labels},
     {"unknown opcode", 255, MANY, unknown_opcode},
     {"Get Poison List, 126 records", 126, MANY, get_poison_list},
     {"Inject Poison of a new line, log Info empty, 0 entries", 0, 1, inject_info_empty},

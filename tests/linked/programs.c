@@ -1,10 +1,11 @@
 /*
  * programs bench | programs probe: the program of document 01 ("Bench program") or of document 10, over the library: records on standard
- * input, a line for each on standard output. Of document 10 the records of the device (NW, CM, EV, MD, LT, ES, DT); those of the host's
- * library are unknown marks here.
+ * input, a line for each on standard output. Of document 10 the records of the device and of the label store (NW, CM, EV, MD, LT, ES, DT,
+ * AR, AB); those of the host's library are unknown marks here.
  *
- * What the formats do not show is checked here after each call, and ends the program by a signal: no byte beside a lent buffer or the
- * device is written, no byte of a payload or record is, and a call that is refused or only reads leaves every byte of the device.
+ * What the formats do not show is checked here after each call, and ends the program by a signal: no byte beside what is lent or the
+ * device is written, no byte of a payload or record is, a call that is refused or only reads leaves every byte of the device, and every
+ * command but a Set LSA that is not refused leaves every byte of the label area.
  */
 #include "kulduvost.h"
 #include "lent.h"
@@ -24,10 +25,11 @@ struct format {
 };
 
 static const struct form bench_forms[] = {{"NW", 6, 0}, {"CM", 14, 12}, {"EV", 139, 0}, {"MD", 23, 0}, {"LT", 10, 0}, {NULL, 0, 0}};
-static const struct form probe_forms[] = {{"NW", 6, 0},  {"CM", 17, 15}, {"EV", 13, 11}, {"MD", 23, 0},
-                                          {"LT", 10, 0}, {"ES", 2, 0},   {"DT", 2, 0},   {NULL, 0, 0}};
+static const struct form probe_forms[] = {{"NW", 6, 0}, {"CM", 17, 15}, {"EV", 13, 11}, {"MD", 23, 0}, {"LT", 10, 0},
+                                          {"ES", 2, 0}, {"DT", 2, 0},   {"AR", 6, 0},   {"AB", 6, 0},  {NULL, 0, 0}};
 static const struct format bench = {"bench", bench_forms, 2048, 0};
 static const struct format probe = {"probe", probe_forms, 4096, 12};
+enum { LABEL_STORE = 8192 }; /* bytes (document 10, W-206): what AR may lend of it, and where AB ends at most */
 
 static uint64_t number(const uint8_t *from, size_t bytes) {
     uint64_t n = 0;
@@ -47,6 +49,17 @@ static const struct form *form_of(const struct format *format, const uint8_t *re
     return form->mark == NULL ? NULL : form;
 }
 
+/* Whether the sizes that a record of the format carries, its own length aside, are within their limits. */
+static bool within_limits(const struct format *format, const uint8_t *record) {
+    if (marked(record, "CM")) {
+        return format->room_at == 0 || number(record + format->room_at, 2) <= format->most;
+    }
+    if (marked(record, "AR")) {
+        return number(record + 2, 4) <= LABEL_STORE;
+    }
+    return !marked(record, "AB") || number(record + 2, 2) + number(record + 4, 2) <= LABEL_STORE;
+}
+
 /* The bytes of the record at the front of `left` bytes; 0 where it is bad: an unknown mark, a cut record, a size over its limit. */
 static size_t record_size(const struct format *format, const uint8_t *record, size_t left) {
     const struct form *form = left < 2 ? NULL : form_of(format, record);
@@ -54,8 +67,7 @@ static size_t record_size(const struct format *format, const uint8_t *record, si
         return 0;
     }
     size_t length = form->length_at == 0 ? 0 : number(record + form->length_at, 2);
-    size_t room = format->room_at != 0 && marked(record, "CM") ? number(record + format->room_at, 2) : 0;
-    if (length > format->most || room > format->most || left - form->fixed < length) {
+    if (length > format->most || !within_limits(format, record) || left - form->fixed < length) {
         return 0;
     }
     return form->fixed + length;
@@ -66,6 +78,8 @@ struct tested {
     const struct format *format;
     struct lent device;
     uint8_t before[KULDUVOST_DEVICE_SIZE];
+    uint8_t labels[LABEL_STORE]; /* the label store of document 10, zero at first; a make leaves it and the size lent */
+    size_t label_size;           /* how many of its first bytes are lent with a command: in bench always 4,096 */
 };
 
 static kulduvost_device *device_of(struct tested *tested) { return (kulduvost_device *)(void *)tested->device.bytes; }
@@ -95,6 +109,24 @@ static void take_back(struct lent lent, const uint8_t *from) {
     lent_free(lent);
 }
 
+/* The label area: a buffer of its own with the bytes of the store that are lent. The guard after it reaches as far as the store would, so
+ * that a byte is seen that a command writes there by the 4,096 bytes that an area should have. */
+static struct lent lend_labels(const struct tested *tested) {
+    struct lent area = lent_guarded(tested->label_size, LABEL_STORE - tested->label_size + LENT_GUARD);
+    memcpy(area.bytes, tested->labels, area.length);
+    return area;
+}
+
+/* `kept`: the command was refused or is not the one that writes labels, so that the area must be as it was. */
+static void take_labels_back(struct tested *tested, struct lent area, bool kept) {
+    lent_check(area);
+    if (kept && memcmp(tested->labels, area.bytes, area.length) != 0) {
+        stop("the label area was changed by a command that was refused or is not Set LSA");
+    }
+    memcpy(tested->labels, area.bytes, area.length);
+    lent_free(area);
+}
+
 /* ---- Lines */
 static void put_hex(const uint8_t *bytes, size_t length) {
     for (size_t i = 0; i < length; i++) {
@@ -110,6 +142,12 @@ static bool all_are(const uint8_t *bytes, size_t length, uint8_t fill) {
         }
     }
     return true;
+}
+
+/* A column of bytes of probe. */
+static void put_bytes(const uint8_t *bytes, size_t length) {
+    fputs(length > 0 ? " " : " -", stdout);
+    put_hex(bytes, length);
 }
 
 /* bench: the length and, if there are any, the bytes. probe: the length, the bytes or `-`, whether the others are still the fill, and the
@@ -128,8 +166,7 @@ static void put_reply(const struct tested *tested, kulduvost_command_answer done
         put_hex(reply.bytes, done.length);
         putchar('\n');
     } else {
-        fputs(done.length > 0 ? " " : " -", stdout);
-        put_hex(reply.bytes, done.length);
+        put_bytes(reply.bytes, done.length);
         printf(" %d %u\n", kept, done.vector);
     }
 }
@@ -157,15 +194,18 @@ static bool serve_make(struct tested *tested, const uint8_t *record) {
 static void serve_command(struct tested *tested, const uint8_t *record, size_t size) {
     size_t room = tested->format == &bench ? KULDUVOST_MAILBOX_SIZE : number(record + 12, 2);
     uint8_t fill = tested->format == &bench ? 0xc3 : record[14];
+    uint16_t opcode = (uint16_t)number(record + 10, 2);
     const uint8_t *payload_at = record + (tested->format == &bench ? 14 : 17);
     struct lent payload = lend(payload_at, size - (size_t)(payload_at - record));
+    struct lent area = lend_labels(tested);
     struct lent reply = lent_new(room);
     memset(reply.bytes, fill, room);
     before_call(tested);
-    kulduvost_command_answer done = kulduvost_command(device_of(tested), (uint16_t)number(record + 10, 2), payload.bytes, payload.length,
-                                                      number(record + 2, 8), reply.bytes, reply.length);
+    kulduvost_command_answer done = kulduvost_command(device_of(tested), opcode, payload.bytes, payload.length, number(record + 2, 8),
+                                                      area.bytes, area.length, reply.bytes, reply.length);
     after_call(tested, done.code != KULDUVOST_SUCCESS);
     take_back(payload, payload_at);
+    take_labels_back(tested, area, done.code != KULDUVOST_SUCCESS || opcode != KULDUVOST_SET_LSA);
     lent_check(reply);
     put_reply(tested, done, reply, fill);
     lent_free(reply);
@@ -220,6 +260,17 @@ static void serve_total(struct tested *tested) {
     printf("DT %llu\n", (unsigned long long)total);
 }
 
+static void serve_label_size(struct tested *tested, const uint8_t *record) {
+    tested->label_size = number(record + 2, 4);
+    printf("AR\n");
+}
+
+static void serve_label_bytes(const struct tested *tested, const uint8_t *record) {
+    printf("AB");
+    put_bytes(tested->labels + number(record + 2, 2), number(record + 4, 2));
+    putchar('\n');
+}
+
 /* False where nothing more is to be served. */
 static bool serve(struct tested *tested, const uint8_t *record, size_t size) {
     if (marked(record, "NW")) {
@@ -235,8 +286,12 @@ static bool serve(struct tested *tested, const uint8_t *record, size_t size) {
         serve_line(tested, record);
     } else if (marked(record, "ES")) {
         serve_status(tested);
-    } else {
+    } else if (marked(record, "DT")) {
         serve_total(tested);
+    } else if (marked(record, "AR")) {
+        serve_label_size(tested, record);
+    } else {
+        serve_label_bytes(tested, record);
     }
     return true;
 }
@@ -280,7 +335,7 @@ static uint8_t *all_input(size_t *length) {
 }
 
 int main(int count, char **words) {
-    struct tested tested = {.format = NULL};
+    struct tested tested = {.format = NULL, .label_size = KULDUVOST_LABEL_AREA_SIZE};
     if (count == 2) {
         tested.format = strcmp(words[1], bench.name) == 0 ? &bench : strcmp(words[1], probe.name) == 0 ? &probe : NULL;
     }

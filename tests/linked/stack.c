@@ -23,16 +23,26 @@ _Static_assert(LIMIT < STACK - 2 * GUARD, "the stack has room for a call that pa
 static uint8_t stack[STACK] __attribute__((aligned(16)));
 static ucontext_t here, there;
 static void (*on_stack)(void);
-static uintptr_t top; /* the caller's stack pointer at the call */
 static size_t lowest; /* the first byte from the low end that was written */
 static uint8_t pattern;
 
 /* A byte written that is the pattern's own is not seen. No byte is the same in both patterns, so one of two runs sees it. */
 static const uint8_t patterns[] = {0x00, 0xff};
 
-/* Stands before each call. At a call the stack pointer is a multiple of 16 by the calling convention: an argument that the compiler
- * pushes after the mark is so left out, as it is where the compiler gives it a place in the caller's frame. */
-#define MARK() __asm__ volatile("mov %%rsp, %0\n\tand $-16, %0" : "=r"(top) : : "memory", "cc")
+/* Each call goes to these instructions, which note the caller's stack pointer at the call and jump on to the function. The arguments of a
+ * command that lie on the stack are so left out, whether the compiler pushes them or gives them a place in the caller's frame: they are
+ * above the pointer noted. rax carries no argument. */
+uintptr_t top;           /* the caller's stack pointer at the call */
+void (*noted_for)(void); /* the function */
+void noted(void);
+__asm__(".pushsection .text\n"
+        "noted:\n\t"
+        "lea 8(%rsp), %rax\n\t"
+        "mov %rax, top(%rip)\n\t"
+        "jmp *noted_for(%rip)\n"
+        ".popsection\n");
+/* By a pointer that the compiler does not see through, so that it keeps to the calling convention. */
+static void (*volatile noted_pointer)(void) = noted;
 
 static uint8_t paint(size_t i) { return (uint8_t)(i * 167 + (i >> 8) * 13 + 90) ^ pattern; }
 
@@ -64,6 +74,7 @@ static size_t depth_of(void (*call)(void), uint8_t painted_with) {
 static const struct row *now;
 static kulduvost_device device;
 static uint8_t reply[KULDUVOST_MAILBOX_SIZE];
+static uint8_t area[KULDUVOST_LABEL_AREA_SIZE + 1]; /* the label area, and a byte more for a row that lends too much */
 static const uint8_t record[KULDUVOST_EVENT_RECORD_SIZE];
 
 struct answer {
@@ -81,6 +92,7 @@ struct row {
     const uint8_t *payload;
     size_t length;      /* of a payload or an event record */
     size_t missing;     /* bytes that the reply buffer lacks */
+    int area_more;      /* bytes that are lent of the area beyond 4,096; below 0: short of them */
     uint16_t units;     /* of make */
     uint64_t address;   /* of a media report or a line test */
     uint32_t lines;
@@ -97,30 +109,32 @@ struct row {
     int more_overflow;  /* counted after than before, all logs together */
     bool flag_set;      /* the call sets the overflow flag */
     const uint8_t *event; /* the record that log Info holds last after it; null: not looked at */
+    size_t labels;      /* bytes of data that a Set LSA writes to the area */
 };
 enum { NONE = -1 };
 /* The caller's time at which the device time was set, what it was set to, the caller's time of every call, and the device time then. */
 enum { SET_AT = 400, SET_TO = 70000, TIME = 1000, DEVICE_TIME = SET_TO + (TIME - SET_AT) };
 #define AS_HELD UINT64_MAX /* expected: the number of lines held */
 
-#define CALL(name, type, called, ...) \
+#define CALL(name, type, function, arguments, ...) \
     static void name(void) { \
-        MARK(); \
-        type a = called; \
+        noted_for = (void (*)(void))function; \
+        type a = ((__typeof__(&function))noted_pointer)arguments; \
         told = (struct answer){__VA_ARGS__}; \
     }
-CALL(make, uint16_t, kulduvost_make(&device, now->units, 0), .code = a)
-CALL(command, kulduvost_command_answer,
-     kulduvost_command(&device, now->opcode, now->payload, now->length, TIME, reply, sizeof reply - now->missing), a.code, a.vector,
-     {a.length})
-CALL(event_report, kulduvost_event_answer, kulduvost_event_report(&device, TIME, now->log, record, now->length), a.code, a.vector,
+CALL(make, uint16_t, kulduvost_make, (&device, now->units, 0), .code = a)
+CALL(command, kulduvost_command_answer, kulduvost_command,
+     (&device, now->opcode, now->payload, now->length, TIME, area, (size_t)(KULDUVOST_LABEL_AREA_SIZE + now->area_more), reply,
+      sizeof reply - now->missing),
+     a.code, a.vector, {a.length})
+CALL(event_report, kulduvost_event_answer, kulduvost_event_report, (&device, TIME, now->log, record, now->length), a.code, a.vector,
      {a.stored})
-CALL(media_report, kulduvost_media_answer, kulduvost_media_report(&device, TIME, now->address, now->lines, now->type), .code = a.code,
+CALL(media_report, kulduvost_media_answer, kulduvost_media_report, (&device, TIME, now->address, now->lines, now->type), .code = a.code,
      .values = {a.stored, a.dropped})
-CALL(line_test, kulduvost_line_answer, kulduvost_line_test(&device, now->address), .code = a.code, .values = {a.answer, a.type})
-CALL(event_status, kulduvost_event_status_answer, kulduvost_event_status(&device), .values = {a.bits, a.waiting, a.highest})
-CALL(damage_total, uint64_t, kulduvost_damage_total(&device), .values = {a})
-CALL(device_size, size_t, kulduvost_device_size(), .values = {a})
+CALL(line_test, kulduvost_line_answer, kulduvost_line_test, (&device, now->address), .code = a.code, .values = {a.answer, a.type})
+CALL(event_status, kulduvost_event_status_answer, kulduvost_event_status, (&device), .values = {a.bits, a.waiting, a.highest})
+CALL(damage_total, uint64_t, kulduvost_damage_total, (&device), .values = {a})
+CALL(device_size, size_t, kulduvost_device_size, (), .values = {a})
 
 /* ---- Addresses and payloads */
 #define LINE ((uint64_t)KULDUVOST_LINE_SIZE)
@@ -145,7 +159,12 @@ static const uint8_t clear_second[8] = {KULDUVOST_LOG_INFO, 0, 1, 0, 0, 0, 2};
 static const uint8_t clear_flagged[8] = {KULDUVOST_LOG_INFO, 0x80, 1, 0, 0, 0, 1}, clear_reserved[8] = {KULDUVOST_LOG_INFO, 0, 1, 0, 0, 1, 1};
 static const uint8_t mode_two[5] = {0, 0, 0, 0, 2};
 #define EFFECTS 0x0d, 0xa9, 0xc0, 0xb5, 0xbf, 0x41, 0x4b, 0x78, 0x8f, 0x79, 0x96, 0xb1, 0x62, 0x3b, 0x3f, 0x17
-static const uint8_t whole_log[24] = {EFFECTS, 0, 0, 0, 0, 48}, log_past[24] = {EFFECTS, 1, 0, 0, 0, 48}, other_log[24] = {0};
+static const uint8_t whole_log[24] = {EFFECTS, 0, 0, 0, 0, 56}, log_past[24] = {EFFECTS, 1, 0, 0, 0, 56}, other_log[24] = {0};
+/* offset 4, then length 4 of a Get LSA or reserved 4 of a Set LSA, whose data are zeros (document 02, W-206) */
+#define HALVES(low, high) (low) & 255, (low) >> 8, 0, 0, (high) & 255, (high) >> 8, 0, 0
+static const uint8_t get_half[8] = {HALVES(2048, 2048)}, get_none[8] = {HALVES(4096, 0)}, get_longer[8] = {HALVES(0, 2049)};
+static const uint8_t get_past[8] = {HALVES(2049, 2048)}, set_none[8] = {HALVES(4096, 0)}, set_reserved[9] = {HALVES(0, 1)};
+static const uint8_t set_most[KULDUVOST_MAILBOX_SIZE] = {HALVES(2056, 0)}, set_past[KULDUVOST_MAILBOX_SIZE] = {HALVES(2057, 0)};
 
 /* The event that an injection reports (document 02, W-204): "128 zero bytes with length 128 at byte 16, the address at bytes 48 to 55, then
  * handle and time as always". */
@@ -196,12 +215,22 @@ static const struct row rows[] = {
     {"Set Timestamp, refused: length", 0, 256, ASK(SET_TIMESTAMP, timestamp, 7), BAD_LENGTH},
     {"Get Supported Logs", 0, 256, ASK(GET_SUPPORTED_LOGS, none, 0), .values = {28}},
     {"Get Supported Logs, refused: length", 0, 256, ASK(GET_SUPPORTED_LOGS, none, 1), BAD_LENGTH},
-    {"Get Log, all of it", 0, 256, ASK(GET_LOG, whole_log, 24), .values = {48}},
+    {"Get Log, all of it", 0, 256, ASK(GET_LOG, whole_log, 24), .values = {56}},
     {"Get Log, refused: length", 0, 256, ASK(GET_LOG, whole_log, 23), BAD_LENGTH},
     {"Get Log, refused: identifier", 0, 256, ASK(GET_LOG, other_log, 24), REFUSED(INVALID_LOG)},
     {"Get Log, refused: range", 0, 256, ASK(GET_LOG, log_past, 24), BAD_INPUT},
     {"Identify", 0, 256, ASK(IDENTIFY, none, 0), .values = {69}},
     {"Identify, refused: length", 0, 256, ASK(IDENTIFY, none, 1), BAD_LENGTH},
+    {"Get LSA, no byte", 0, 256, ASK(GET_LSA, get_none, 8)},
+    {"Get LSA, 2,048 bytes", 0, 256, ASK(GET_LSA, get_half, 8), .values = {2048}},
+    {"Get LSA, refused: length", 0, 256, ASK(GET_LSA, get_half, 7), BAD_LENGTH},
+    {"Get LSA, refused: over 2,048 bytes", 0, 256, ASK(GET_LSA, get_longer, 8), BAD_INPUT},
+    {"Get LSA, refused: past the end", 0, 256, ASK(GET_LSA, get_past, 8), BAD_INPUT},
+    {"Set LSA, no data", 0, 256, ASK(SET_LSA, set_none, 8)},
+    {"Set LSA, 2,040 bytes of data", 0, 256, ASK(SET_LSA, set_most, sizeof set_most), .labels = 2040},
+    {"Set LSA, refused: length", 0, 256, ASK(SET_LSA, set_none, 7), BAD_LENGTH},
+    {"Set LSA, refused: reserved byte", 0, 256, ASK(SET_LSA, set_reserved, 9), BAD_INPUT},
+    {"Set LSA, refused: past the end", 0, 256, ASK(SET_LSA, set_past, sizeof set_past), BAD_INPUT},
     {"Get Poison List, no record", 0, 256, ASK(GET_POISON_LIST, no_entry, 16), .values = {32}},
     {"Get Poison List, 126 records", 126, 256, ASK(GET_POISON_LIST, all_lines, 16), .values = {32 + 126 * 16}},
     {"Get Poison List, refused: length", 0, 256, ASK(GET_POISON_LIST, all_lines, 15), BAD_LENGTH},
@@ -233,6 +262,8 @@ static const struct row rows[] = {
     {"Clear Poison, refused: unaligned", 0, 256, ASK(CLEAR_POISON, unaligned, 72), BAD_INPUT},
     {"Clear Poison, refused: outside", 0, 256, ASK(CLEAR_POISON, outside, 72), BAD_ADDRESS},
     {"command, refused: reply buffer too small", 0, 256, ASK(IDENTIFY, none, 0), .missing = 1, REFUSED(REPLY_BUFFER_TOO_SMALL)},
+    {"command, refused: label area too small", 0, 256, ASK(IDENTIFY, none, 0), .area_more = -1, REFUSED(REPLY_BUFFER_TOO_SMALL)},
+    {"command, refused: label area too great", 0, 256, ASK(IDENTIFY, none, 0), .area_more = 1, REFUSED(REPLY_BUFFER_TOO_SMALL)},
     {"command, refused: payload over 2,048 bytes", 0, 256, ASK(IDENTIFY, too_long, sizeof too_long), BAD_LENGTH},
     {"command, refused: unknown opcode", 0, 256, .call = command, .opcode = 0x7777, .payload = none, REFUSED(UNSUPPORTED_OPCODE)},
     {"event report to a log with room", 0, 256, EVENT(LOG_INFO, 128), .values = {1}, .info_room = 1, .more_records = 1,
@@ -280,9 +311,25 @@ struct held {
 
 static uint64_t number(const uint8_t *from, size_t bytes) { return bytes == 0 ? 0 : from[0] | number(from + 1, bytes - 1) << 8; }
 
-static size_t ask(uint16_t opcode, const uint8_t *payload, size_t length) {
-    return kulduvost_command(&device, opcode, payload, length, TIME, reply, sizeof reply).length;
+/* Byte i of the area before a call: not zero, which is what a Set LSA writes here. */
+static uint8_t label_before(size_t i) { return (uint8_t)(i % 255 + 1); }
+
+/* Whether the area, the byte after it too, holds the data of the row's Set LSA in their place and is otherwise as it was. */
+static bool labels_as_expected(const struct row *row) {
+    uint64_t from = row->labels == 0 ? 0 : number(row->payload, 4);
+    for (size_t i = 0; i < sizeof area; i++) {
+        if (area[i] != (from <= i && i < from + row->labels ? 0 : label_before(i))) {
+            return false;
+        }
+    }
+    return true;
 }
+
+static size_t ask_at(uint64_t time, uint16_t opcode, const uint8_t *payload, size_t length) {
+    return kulduvost_command(&device, opcode, payload, length, time, area, KULDUVOST_LABEL_AREA_SIZE, reply, sizeof reply).length;
+}
+
+static size_t ask(uint16_t opcode, const uint8_t *payload, size_t length) { return ask_at(TIME, opcode, payload, length); }
 
 /* By its replies: the records of its five logs and what they counted as overflow, and the entries, read on from the end of the last where
  * there are more. */
@@ -337,15 +384,18 @@ static void fill_log(uint8_t log, int records) {
 }
 
 /* The clock set; the entries; eight records in logs Info, with handles 1 to 8, or as many fewer as it has room for, and Failure, which has
- * dropped a ninth. For make, memory all zero. */
+ * dropped a ninth. For make, memory all zero. The label area as `label_before` has it. */
 static void prepare(const struct row *row, int entries) {
     memset(&device, 0, sizeof device);
+    for (size_t i = 0; i < sizeof area; i++) {
+        area[i] = label_before(i);
+    }
     told = (struct answer){.code = UINT16_MAX}; /* no call's answer */
     if (row->call == make) {
         return;
     }
     kulduvost_make(&device, 1, 0);
-    kulduvost_command(&device, KULDUVOST_SET_TIMESTAMP, timestamp, sizeof timestamp, SET_AT, reply, sizeof reply);
+    ask_at(SET_AT, KULDUVOST_SET_TIMESTAMP, timestamp, sizeof timestamp);
     if (!row->disabled) {
         ask(KULDUVOST_SET_EVENT_INTERRUPT_POLICY, enabling, sizeof enabling);
     }
@@ -357,12 +407,12 @@ static void prepare(const struct row *row, int entries) {
     fill_log(KULDUVOST_LOG_FAILURE, KULDUVOST_EVENT_LOG_RECORDS + 1);
 }
 
-/* Whether the call answered, and the device holds after it, what the row says of so many entries. */
+/* Whether the call answered, and device and label area hold after it, what the row says of so many entries. */
 static bool as_expected(const struct row *row, int entries) {
     uint64_t lines = (uint64_t)entries * (1 + row->long_by);
     int records = row->call == make ? 0 : 2 * KULDUVOST_EVENT_LOG_RECORDS - row->info_room, overflow = row->call == make ? 0 : 1;
     struct held after = held();
-    bool same = told.code == row->code && told.vector == row->vector;
+    bool same = told.code == row->code && told.vector == row->vector && labels_as_expected(row);
     for (size_t i = 0; i < 3; i++) {
         same = same && told.values[i] == (row->values[i] == AS_HELD ? lines : row->values[i]);
     }
@@ -402,7 +452,7 @@ static void measure(const struct row *row, int entries) {
         right = as_expected(row, entries) && right;
     }
     printf(" %zu |", deepest);
-    expect(right, row->name, entries, "another answer, or another device after the call, than expected");
+    expect(right, row->name, entries, "another answer, or another device or label area after the call, than expected");
     expect(deepest <= LIMIT, row->name, entries, "more stack than the management core has");
 }
 
@@ -414,8 +464,7 @@ static void print_name(const struct row *row) {
     printf(" |");
 }
 
-/* The measuring itself, by a call that is known to write a byte some way down. By a pointer that the compiler does not see through, so
- * that it keeps to the calling convention. */
+/* The measuring itself, by a call that is known to write a byte some way down. */
 enum { DEEP = 20000 };
 static int deep(void) {
     uint8_t room[DEEP];
@@ -423,8 +472,7 @@ static int deep(void) {
     __asm__ volatile("" : : "r"(room) : "memory");
     return 0;
 }
-static int (*volatile deep_pointer)(void) = deep;
-CALL(call_deep, int, deep_pointer(), .values = {(uint64_t)a})
+CALL(call_deep, int, deep, (), .values = {(uint64_t)a})
 
 int main(void) {
     printf("| Call | 0 entries | 256 entries |\n|---|---|---|\n");

@@ -1,7 +1,8 @@
 /*
  * threads: a thousand devices on several threads, one thread a device at a time. Every device has a seeded mix of calls of its own, made
- * in turns; from turn to turn it goes to another thread. What each device answered (a checksum over every answer and reply byte) must be
- * what the same calls answer that are made one by one on one thread: devices share nothing (kulduvost.h).
+ * in turns; from turn to turn it goes to another thread, with its label area. What each device answered (a checksum over every answer,
+ * reply byte and byte of its area) must be what the same calls answer that are made one by one on one thread: devices share nothing
+ * (kulduvost.h).
  * The last line is `N passed, M failed`, counting devices; exit status 1 if M is not 0.
  */
 #define _POSIX_C_SOURCE 200112L
@@ -18,6 +19,7 @@ enum { DEVICES = 1000, THREADS = 4, CALLS = 40 /* in a turn */ };
 
 struct tested {
     kulduvost_device device;
+    uint8_t labels[KULDUVOST_LABEL_AREA_SIZE];
     uint8_t reply[KULDUVOST_MAILBOX_SIZE];
     uint64_t random;
     uint64_t checksum;
@@ -61,8 +63,8 @@ static uint64_t any_address(struct tested *tested) {
 }
 
 static void command(struct tested *tested, uint16_t opcode, const uint8_t *payload, size_t length) {
-    kulduvost_command_answer done =
-        kulduvost_command(&tested->device, opcode, payload, length, next(tested), tested->reply, sizeof tested->reply);
+    kulduvost_command_answer done = kulduvost_command(&tested->device, opcode, payload, length, next(tested), tested->labels,
+                                                      sizeof tested->labels, tested->reply, sizeof tested->reply);
     add(tested, done.code);
     add(tested, done.vector);
     add(tested, done.length);
@@ -97,6 +99,18 @@ static void event_command(struct tested *tested) {
         payload[6 + 2 * i] = (uint8_t)(payload[6 + 2 * i] + (below(tested, 9) == 0));
     }
     command(tested, KULDUVOST_CLEAR_EVENT_RECORDS, payload, 6 + 2 * handles);
+}
+
+/* Some data at any place of the area, then a Get of any range; some of both are past its end, and some Gets are too long. */
+static void label_command(struct tested *tested) {
+    uint8_t payload[8 + 200];
+    size_t data = below(tested, sizeof payload - 7);
+    put(payload, below(tested, KULDUVOST_LABEL_AREA_SIZE), 8);
+    memset(payload + 8, (int)below(tested, 256), data);
+    command(tested, KULDUVOST_SET_LSA, payload, 8 + data);
+    put(payload, below(tested, KULDUVOST_LABEL_AREA_SIZE), 4);
+    put(payload + 4, below(tested, KULDUVOST_MAILBOX_SIZE + 100), 4);
+    command(tested, KULDUVOST_GET_LSA, payload, 8);
 }
 
 static void other_command(struct tested *tested) {
@@ -142,7 +156,7 @@ static void questions(struct tested *tested) {
 }
 
 static void one_call(struct tested *tested) {
-    switch (below(tested, 12)) {
+    switch (below(tested, 13)) {
     case 0: poison_list(tested); break;
     case 1: event_command(tested); break;
     case 2: other_command(tested); break;
@@ -151,6 +165,7 @@ static void one_call(struct tested *tested) {
     case 5:
     case 6: questions(tested); break;
     case 7: poison_command(tested); break;
+    case 8: label_command(tested); break;
     default: media_report(tested); break;
     }
 }
@@ -166,6 +181,7 @@ static void turn(struct tested *tested) {
     for (int i = 0; i < CALLS; i++) {
         one_call(tested);
     }
+    add_bytes(tested, tested->labels, sizeof tested->labels);
 }
 
 /* ---- On several threads: in a turn each thread has the devices of its own number; the barrier hands them on to the next. */

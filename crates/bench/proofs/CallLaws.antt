@@ -1,5 +1,5 @@
 -- The mailbox's answers said of a record's bytes, each answer with its line, and which of them serves a record of each mark. Assumes nothing.
-use mathlib.Core.Path.{_≡_, refl, ap, ap₂, _∙_}
+use mathlib.Core.Path.{_≡_, refl, sym, ap, ap₂, subst, _∙_}
 use mathlib.Core.Bool.{Bool, cond}
 use mathlib.Core.List.{List, [], _∷_}
 use Prim.Native.Nat.{ℕ, _+_, _-_}
@@ -16,14 +16,16 @@ use Rattle.mailbox.specs.State.{DeviceState, ValidDevice, state-of}
 use Rattle.mailbox.specs.Outcome.{Outcome}
 use Rattle.mailbox.specs.Contracts.{Answered, Makes, EventDone, MediaDone, LineDone}
 use Rattle.poison.specs.LineTest.{answer-number, answer-type}
+use Rattle.protocol.specs.declared.calls.Served.{Served}
 use Rattle.protocol.specs.Text.{numbers-line}
 use Rattle.protocol.specs.Records.{mark-of, NW, CM, EV, MD, LT}
 use Rattle.protocol.specs.Calls.{new-call, media-call, line-call}
 use Rattle.protocol.specs.Contracts.{PutsLine, Serves}
+use Rattle.protocol.specs.Runs.{Printed}
 use Rattle.protocol.proofs.Laws.{puts-line-as}
 use Rattle.bench.specs.Lines.{command-line, told-line}
-use Rattle.bench.specs.Calls.{command-call, event-call, first-record, serve-command, serve-event, serve-media, serve-line, serve-record}
-use Rattle.bench.specs.Contracts.{Begins}
+use Rattle.bench.specs.Calls.{Kept, command-call, area-left, keeps-area, event-call, first-record, serve-command, serve-event, serve-media, serve-line, serve-record}
+use Rattle.bench.specs.Contracts.{Begins, kept-of, Leaves}
 
 -- the reply, read back out of the reply buffer
 reply-read : {o : Outcome} {d : Device} {a : Answer} {before after : List ℕ} → Answered o d a before after → take (a .length) after ≡ o .reply
@@ -32,11 +34,17 @@ reply-read {o} {before = before} told =
     ap₂ take (told .size) (told .bytes) ∙ take-at (o .reply) (drop (0 + length (o .reply)) before) (length (o .reply)) refl
 
 -- each record served
-pub command-served : (bytes : List ℕ) {d : Device} {a : Answer} {held reply before after : List ℕ} {used e : ℕ} → Answered (command-call (state-of d) bytes) d a held reply
+pub command-served : (bytes area : List ℕ) {d : Device} {a : Answer} {area' held reply before after : List ℕ} {used e : ℕ}
+    → Answered (command-call (kept-of d area) bytes) d a held reply → area' ≡ area-left (kept-of d area) bytes (a .code)
     → PutsLine used (command-line (a .code) (take (a .length) reply)) before after e
-    → Serves (serve-command (state-of d) bytes) used (record { used = e; device = a .device }) before after
+    → Leaves (serve-command (kept-of d area) bytes) used (record { used = e; device = a .device }) area' before after
 unfolding serve-command
-command-served bytes told put = record { line = puts-line-as put (ap₂ command-line (told .code) (reply-read told)); next = told .next; valid = told .valid }
+command-served bytes area {d} told left put =
+    record {
+      line = puts-line-as put (ap₂ command-line (told .code) (reply-read told));
+      next = λ i. record { device = told .next i; area = (left ∙ ap (area-left (kept-of d area) bytes) (told .code)) i };
+      valid = told .valid;
+    }
 
 pub event-served : (bytes : List ℕ) {d : Device} {a : EventAnswer} {before after : List ℕ} {used e : ℕ} → EventDone (event-call (state-of d) bytes) d a
     → PutsLine used (told-line EV (a .code) (cond (a .stored) 1 0 ∷ [])) before after e
@@ -75,20 +83,29 @@ unfolding first-record
 begun bytes made put =
     record { number = made .code; line = puts-line-as put (ap (λ (c : ℕ). numbers-line NW (c ∷ [])) (made .code)); next = made .next; valid = made .valid }
 
+-- a record that sees the device alone leaves the area
+pub area-kept : (k : Kept) {o : Printed DeviceState} {used : ℕ} {r : Served} {before after : List ℕ} → Serves o used r before after
+    → Leaves (keeps-area k o) used r (k .area) before after
+area-kept k served = record { line = served .line; next = λ i. record { device = served .next i; area = k .area }; valid = served .valid }
+
+-- a record served, by another name
+pub leaves-as : {o p : Printed Kept} {used : ℕ} {r : Served} {area before after : List ℕ} → Leaves o used r area before after → p ≡ o → Leaves p used r area before after
+leaves-as {o} {p} {used} {r} {area} {before} {after} h e = subst (λ (x : Printed Kept). Leaves x used r area before after) (sym e) h
+
 -- which of them serves a record, by its mark
-module _ (d : DeviceState) (r : List ℕ) where
-  pub by-command : mark-of r ≡ mark-of CM → serve-record d r ≡ serve-command d r
+module _ (k : Kept) (r : List ℕ) where
+  pub by-command : mark-of r ≡ mark-of CM → serve-record k r ≡ serve-command k r
   unfolding serve-record
   by-command e = rw e
 
-  pub by-event : mark-of r ≡ mark-of EV → serve-record d r ≡ serve-event d r
+  pub by-event : mark-of r ≡ mark-of EV → serve-record k r ≡ keeps-area k (serve-event (k .device) r)
   unfolding serve-record
   by-event e = rw e
 
-  pub by-media : mark-of r ≡ mark-of MD → serve-record d r ≡ serve-media d r
+  pub by-media : mark-of r ≡ mark-of MD → serve-record k r ≡ keeps-area k (serve-media (k .device) r)
   unfolding serve-record
   by-media e = rw e
 
-  pub by-line : mark-of r ≡ mark-of LT → serve-record d r ≡ serve-line d r
+  pub by-line : mark-of r ≡ mark-of LT → serve-record k r ≡ keeps-area k (serve-line (k .device) r)
   unfolding serve-record
   by-line e = rw e

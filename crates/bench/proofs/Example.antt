@@ -5,6 +5,7 @@ use mathlib.Core.List.{List, [], _∷_, _++_}
 use Prim.Native.Nat.{ℕ}
 use lib.ListN.{length, take, drop, replicate}
 use Rattle.mailbox.proofs.Laws.{rules}
+use Rattle.labels.specs.Labels.{zero-area}
 use Rattle.protocol.specs.Text.{numeral, columns, hex, bad-line, last-line}
 use Rattle.protocol.specs.Records.{whole, tells, front-size}
 use Rattle.protocol.specs.Runs.{reading}
@@ -17,7 +18,7 @@ use Rattle.bench.specs.Calls.{first-record, serve-command, serve-event, 
 program : ℕ → List ℕ → List ℕ
 program n l =
     let first = take (reading bench 0 l) l in
-    first-record first .line ++ printed bench n (first-record first .next) (length first) (drop (length first) l)
+    first-record first .line ++ printed bench n (record { device = first-record first .next; area = zero-area }) (length first) (drop (length first) l)
 
 -- "NW 1 0; MD time 0, address 128, 3 lines, type 2; CM time 0, 4302h, address 192, 64 zero bytes; LT 192; LT 128; CM time 0, 4300h, address 0, 16 lines"
 input : List ℕ

@@ -4,7 +4,7 @@ use mathlib.Core.List.{List}
 use Prim.Native.Nat.{ℕ}
 use native.Mathlib.Omega.{arith}
 use lib.ListN.{length}
-use Rattle.mailbox.specs.State.{DeviceState}
+use Rattle.labels.specs.Labels.{zero-area}
 use Rattle.protocol.specs.declared.stream.Stream.{Stream}
 use Rattle.protocol.specs.declared.records.Found.{Found}
 use Rattle.protocol.specs.Text.{last-line}
@@ -14,7 +14,7 @@ use Rattle.protocol.specs.Calls.{new-call}
 use Rattle.protocol.specs.Contracts.{PutsLine, Finds}
 use Rattle.protocol.specs.Runs.{reading, Machine, machine-of, NoRecord, Ends}
 use Rattle.protocol.proofs.Laws.{no-record, length-left, text-after}
-use Rattle.bench.specs.Calls.{first-record, bench}
+use Rattle.bench.specs.Calls.{Kept, first-record, bench}
 use Rattle.bench.specs.Runs.{Runs}
 use Rattle.bench.specs.Runs.Runs.{unmade, refused, made}
 
@@ -37,9 +37,9 @@ module _ (offset : ℕ) (first : List ℕ) (code : ℕ) (start : offset ≡ 0) (
   pub run-refused : {e : ℕ} {out out' : List ℕ} → (code ≡ 0 → ⊥) → PutsLine 0 (first-record first .line) out out' e → Runs e out'
   run-refused not put = refused first one (λ e. not (number ∙ e)) (text-after (put .puts) (omega arith))
 
-  pub run-made : (d : DeviceState) (s : Stream) (input : List ℕ) {r : ℕ} {out out' out'' : List ℕ} → code ≡ 0 → d ≡ first-record first .next → s .offset ≡ length first
-      → PutsLine 0 (first-record first .line) out out' (s .used) → Ends bench (machine-of d s input out') r out'' → Runs r out''
-  run-made d s input {r} {out} {out'} {out''} success next place put ends =
+  pub run-made : (k : Kept) (s : Stream) (input : List ℕ) {r : ℕ} {out out' out'' : List ℕ} → code ≡ 0 → k .device ≡ first-record first .next → k .area ≡ zero-area
+      → s .offset ≡ length first → PutsLine 0 (first-record first .line) out out' (s .used) → Ends bench (machine-of k s input out') r out'' → Runs r out''
+  run-made k s input {r} {out} {out'} {out''} success next clear place put ends =
       made first (left s input) (s .ended) one (sym number ∙ success)
-      (subst (λ (m : Machine DeviceState). Ends bench m r out'')
-      (λ i. record { state = next i; offset = place i; left = left s input; ended = s .ended; unwritten = text-after (put .puts) (omega arith) i }) ends)
+      (subst (λ (m : Machine Kept). Ends bench m r out'')
+      (λ i. record { state = record { device = next i; area = clear i }; offset = place i; left = left s input; ended = s .ended; unwritten = text-after (put .puts) (omega arith) i }) ends)

@@ -9,7 +9,8 @@ use protocol::stream;
 fn main() {
     let mut input = io::large_buffer();
     let mut out = io::large_buffer();
+    let mut area = [0u8; 4096];
     let mut reply = [0u8; 2048];
-    let used = serve::run(&mut input, &mut out, &mut reply);
+    let used = serve::run(&mut input, &mut out, &mut area, &mut reply);
     stream::flush(&out, used);
 }

@@ -19,13 +19,14 @@ ghost use Prim.Native.Nat.{_+_, _≤_, _<_};
 ghost use lib.ListN.{length};
 ghost use Rattle.mailbox.specs.State.{ValidDevice, state-of};
 ghost use Rattle.mailbox.specs.Contracts.{Answered, EventDone};
+ghost use Rattle.labels.specs.Labels.{zero-area};
 ghost use Rattle.protocol.specs.Stream.{Fits};
 ghost use Rattle.protocol.specs.Calls.{new-call};
 ghost use Rattle.protocol.specs.Contracts.{PutsLine, Serves};
 ghost use Rattle.protocol.specs.Runs.{machine-of, Ends};
-ghost use Rattle.bench.specs.Calls.{command-call, event-call, first-record, serve-command, serve-event, serve-media, serve-line, bench};
+ghost use Rattle.bench.specs.Calls.{command-call, area-left, event-call, first-record, serve-command, serve-event, serve-media, serve-line, bench};
 ghost use Rattle.bench.specs.Runs.{Runs};
-ghost use Rattle.bench.specs.Contracts.{Begins};
+ghost use Rattle.bench.specs.Contracts.{Begins, kept-of, Leaves};
 
 // The device made by NW, its return number, and the bytes of the output buffer that are not written yet.
 pub struct Begun {
@@ -35,13 +36,13 @@ pub struct Begun {
 }
 
 // CM (time 8, opcode 2, length 2, payload): the call.
-fn call_command(device: Device, bytes: &[u8], reply: &mut [u8]) -> Answer
+fn call_command(device: Device, bytes: &[u8], area: &mut [u8], reply: &mut [u8]) -> Answer
     requires { ⌜ ValidDevice device × (14 ≤ length (now bytes)) × (length (now reply) ≡ 2048) ⌝ }
-    ensures { λ r. ⌜ Answered (command-call (state-of device) (now (bytes .entry))) device r (now (reply .entry)) (now (reply .exit)) ⌝ }
+    ensures { λ r. ⌜ Answered (command-call (kept-of device (now (area .entry))) (now (bytes .entry))) device r (now (reply .entry)) (now (reply .exit)) × (now (area .exit) ≡ area-left (kept-of device (now (area .entry))) (now (bytes .entry)) (r .code)) ⌝ }
 {
     let time = wire::get(bytes, 2, 8);
     let opcode = wire::get(bytes, 10, 2) as u16;
-    device.command(opcode, &bytes[14..], time, reply)
+    device.command(opcode, &bytes[14..], time, area, reply)
 }
 
 // EV (time 8, log 1, record 128): the call.
@@ -54,11 +55,18 @@ fn call_event(device: Device, bytes: &[u8]) -> EventAnswer
 }
 
 // CM: the return number, the length of the reply and its bytes.
-fn command(device: Device, bytes: &[u8], reply: &mut [u8], out: &mut [u8], used: usize) -> Served
+fn command(
+    device: Device,
+    bytes: &[u8],
+    area: &mut [u8],
+    reply: &mut [u8],
+    out: &mut [u8],
+    used: usize,
+) -> Served
     requires { ⌜ ValidDevice device × (14 ≤ length (now bytes)) × (length (now reply) ≡ 2048) × (used + 4200 ≤ length (now out)) ⌝ }
-    ensures { λ r. ⌜ Serves (serve-command (state-of device) (now (bytes .entry))) used r (now (out .entry)) (now (out .exit)) ⌝ }
+    ensures { λ r. ⌜ Leaves (serve-command (kept-of device (now (area .entry))) (now (bytes .entry))) used r (now (area .exit)) (now (out .entry)) (now (out .exit)) ⌝ }
 {
-    let answer = call_command(device, bytes, reply);
+    let answer = call_command(device, bytes, area, reply);
     let end = lines::put_command(out, used, answer.code, reply, answer.length);
     let next = answer.device;
     Served {
@@ -100,9 +108,16 @@ fn line(device: Device, bytes: &[u8], out: &mut [u8], used: usize) -> usize
 }
 
 // Serves the records after the first. A proved loop has to end: it does at an offset that no input reaches.
-fn serve(made: Device, start: Stream, input: &mut [u8], out: &mut [u8], reply: &mut [u8]) -> usize
+fn serve(
+    made: Device,
+    start: Stream,
+    input: &mut [u8],
+    out: &mut [u8],
+    area: &mut [u8],
+    reply: &mut [u8],
+) -> usize
     requires { ⌜ ValidDevice made × Fits start × (0 < start .offset) × (length (now input) ≡ 65536) × (length (now out) ≡ 65536) × (length (now reply) ≡ 2048) ⌝ }
-    ensures { λ r. ⌜ (r ≤ 65536) × Ends bench (machine-of (state-of made) start (now (input .entry)) (now (out .entry))) r (now (out .exit)) ⌝ }
+    ensures { λ r. ⌜ (r ≤ 65536) × Ends bench (machine-of (kept-of made (now (area .entry))) start (now (input .entry)) (now (out .entry))) r (now (out .exit)) ⌝ }
 {
     let mut device = made;
     let mut s = start;
@@ -118,7 +133,7 @@ fn serve(made: Device, start: Stream, input: &mut [u8], out: &mut [u8], reply: &
         let to = rest.at;
         match mark(&input[at..to]) {
             0x434D => { // CM
-                let served = command(device, &input[at..to], reply, out, used);
+                let served = command(device, &input[at..to], area, reply, out, used);
                 let next = served.device;
                 device = next;
                 rest.used = served.used;
@@ -161,9 +176,9 @@ fn begin(bytes: &[u8], out: &mut [u8]) -> Begun
     Begun { code, used, device }
 }
 
-// Makes the device by the first record and serves the others: how many bytes of the output buffer are not written yet.
-pub(crate) fn run(input: &mut [u8], out: &mut [u8], reply: &mut [u8]) -> usize
-    requires { ⌜ (length (now input) ≡ 65536) × (length (now out) ≡ 65536) × (length (now reply) ≡ 2048) ⌝ }
+// Makes the device by the first record and serves the others: how many bytes of the output buffer are not written yet. The label area starts as zeros.
+pub(crate) fn run(input: &mut [u8], out: &mut [u8], area: &mut [u8], reply: &mut [u8]) -> usize
+    requires { ⌜ (length (now input) ≡ 65536) × (length (now out) ≡ 65536) × (length (now reply) ≡ 2048) × (now area ≡ zero-area) ⌝ }
     ensures { λ r. ⌜ (r ≤ 65536) × Runs r (now (out .exit)) ⌝ }
 {
     let start = Stream::new();
@@ -181,5 +196,5 @@ pub(crate) fn run(input: &mut [u8], out: &mut [u8], reply: &mut [u8]) -> usize
     }
     let device = begun.device;
     rest.used = begun.used;
-    serve(device, rest, input, out, reply)
+    serve(device, rest, input, out, area, reply)
 }

@@ -17,6 +17,7 @@ use Rattle.events.specs.Log.{ValidLog, blank}
 use Rattle.events.proofs.log.Log as LogT
 use Rattle.events.proofs.log.Log.Laws as LogL
 use Rattle.mailbox.specs.declared.device.Device.{Device}
+use Rattle.mailbox.specs.declared.by_parts.AreaParts.{AreaParts}
 use Rattle.mailbox.specs.declared.by_parts.ListLeft.{ListLeft}
 use Rattle.mailbox.specs.declared.by_parts.InjectLeft.{InjectLeft}
 use Rattle.mailbox.specs.declared.by_parts.LogParts.{LogParts}
@@ -29,12 +30,14 @@ use Rattle.mailbox.specs.Vector.{numbered}
 use Rattle.mailbox.specs.Mailbox.{outcome}
 use Rattle.mailbox.specs.DeviceCalls.{event-report, media-report, line-test, damage-total}
 use Rattle.mailbox.specs.Contracts.{Answered, EventDone, MediaDone}
-use Rattle.mailbox.specs.ByParts.{of-list, of-injection, of-log, log-at, log-named, device-of, with-log, ListAnswered, InjectAnswered, LogAnswered, SettingsAnswered, EventIn, MediaIn}
-use Rattle.mailbox.proofs.Laws.{numbered-none, command-vector, list-parts-answered, inject-parts-answered, log-parts-answered, settings-parts-answered, event-parts-done, media-parts-done}
+use Rattle.mailbox.specs.ByParts.{AreaAnswered, of-area, of-list, of-injection, of-log, log-at, log-named, device-of, with-log, ListAnswered, InjectAnswered, LogAnswered, SettingsAnswered, EventIn, MediaIn}
+use Rattle.mailbox.proofs.Laws.{not-area, not-area-sized, other-leaves, numbered-none, command-vector, list-parts-answered, inject-parts-answered, log-parts-answered, settings-parts-answered, event-parts-done, media-parts-done}
 use Rattle.mailbox.proofs.device.Device as DeviceT
 use Rattle.mailbox.proofs.device.Device.Laws as DeviceL
+use Rattle.labels.specs.Labels.{label-size}
+use Rattle.embed.specs.declared.Done.{Done}
 use Rattle.embed.specs.declared.Line.{Line}
-use Rattle.embed.specs.Left.{LineTold, seen}
+use Rattle.embed.specs.Left.{Commanded, WithoutArea, LineTold, seen}
 use Rattle.embed.proofs.Indexed.{count}
 
 -- what lies behind the pointer is a device: each number fits its field, each array has its length
@@ -80,27 +83,65 @@ total-in-asks d v was = v .poison .few
 pub total-in-gives : (d : Device) → ValidDevice d → Held d → (r : ℕ) → r ≡ total-in (d .poison .count) (d .poison .lengths) → r ≡ damage-total (state-of d)
 total-in-gives d v was r e = e ∙ total-is (d .poison) (sized d was)
 
--- ---- a command: the function of the part that its opcode sees is handed the device
-module _ (d : Device) (opcode : ℕ) (payload : List ℕ) (time : ℕ) (reply : List ℕ) (v : ValidDevice d) where
-  pub run-on-list-asks : of-list opcode ≡ true → ValidDevice d × (of-list opcode ≡ true)
-  run-on-list-asks is = (v, is)
+-- ---- a command: what the label area decides, it decides without the device; else the function of the part that the opcode sees is handed the device
+module _ (d : Device) (opcode : ℕ) (payload : List ℕ) (time : ℕ) (area reply : List ℕ) where
+  module _ (v : ValidDevice d) where
+    pub run-on-area-asks : of-area opcode (length area) ≡ true → ValidDevice d × (of-area opcode (length area) ≡ true)
+    run-on-area-asks is = (v, is)
 
-  pub run-injection-asks : of-list opcode ≡ false → of-injection opcode ≡ true → ValidDevice d × (of-injection opcode ≡ true)
-  run-injection-asks list is = (v, is)
+    pub run-on-device-asks : of-area opcode (length area) ≡ false → ValidDevice d × (of-area opcode (length area) ≡ false)
+    run-on-device-asks is = (v, is)
 
-  pub run-on-log-asks : of-list opcode ≡ false → of-injection opcode ≡ false → of-log opcode ≡ true → ValidDevice d × (of-log opcode ≡ true)
-  run-on-log-asks list injection is = (v, is)
+  module _ (v : ValidDevice d × (of-area opcode (length area) ≡ true)) where
+    pub area-command-asks : of-area opcode (length area) ≡ true
+    area-command-asks = v .1
 
-  pub run-on-settings-asks : of-list opcode ≡ false → of-injection opcode ≡ false → of-log opcode ≡ false
-      → ValidDevice d × (of-list opcode ≡ false) × (of-injection opcode ≡ false) × (of-log opcode ≡ false)
-  run-on-settings-asks list injection log = (v, list, injection, log)
+    pub area-command-gives : (r : AreaParts) (left after : List ℕ) → AreaAnswered opcode payload r reply after area left
+        → Commanded d opcode payload time area reply (record { code = r .code; vector = 0; length = r .length }) d left after
+    area-command-gives r left after e = (command-vector (sym numbered-none) (e .answered d time (v .0)), e .area)
+
+  module _ (v : ValidDevice d × (of-area opcode (length area) ≡ false)) where
+    -- a function that is not told of the area answers at the one that is lent, and the area stays
+    at-area : (r : Done) {e : Device} {after : List ℕ} → WithoutArea d opcode payload time reply r e after → Commanded d opcode payload time area reply r e area after
+    at-area r a = (a area (not-area opcode (length area) (v .1) .0), other-leaves opcode payload (r .code) area (not-area opcode (length area) (v .1) .2))
+
+    module _ (is : of-list opcode ≡ true) where
+      pub run-on-list-asks : ValidDevice d × (of-list opcode ≡ true)
+      run-on-list-asks = (v .0, is)
+
+      pub run-on-list-gives : (r : Done) (after : List ℕ) {e : Device} → WithoutArea d opcode payload time reply r e after → Commanded d opcode payload time area reply r e area after
+      run-on-list-gives r after a = at-area r a
+
+    module _ (list : of-list opcode ≡ false) where
+      module _ (is : of-injection opcode ≡ true) where
+        pub run-injection-asks : ValidDevice d × (of-injection opcode ≡ true)
+        run-injection-asks = (v .0, is)
+
+        pub run-injection-gives : (r : Done) (after : List ℕ) {e : Device} → WithoutArea d opcode payload time reply r e after → Commanded d opcode payload time area reply r e area after
+        run-injection-gives r after a = at-area r a
+
+      module _ (injection : of-injection opcode ≡ false) where
+        module _ (is : of-log opcode ≡ true) where
+          pub run-on-log-asks : ValidDevice d × (of-log opcode ≡ true)
+          run-on-log-asks = (v .0, is)
+
+          pub run-on-log-gives : (r : Done) (after : List ℕ) {e : Device} → WithoutArea d opcode payload time reply r e after → Commanded d opcode payload time area reply r e area after
+          run-on-log-gives r after a = at-area r a
+
+        module _ (log : of-log opcode ≡ false) where
+          pub run-on-settings-asks : ValidDevice d × (of-area opcode label-size ≡ false) × (of-list opcode ≡ false) × (of-injection opcode ≡ false) × (of-log opcode ≡ false)
+          run-on-settings-asks = (v .0, not-area-sized opcode (length area) (v .1), list, injection, log)
+
+          pub run-on-settings-gives : (r : Done) (after : List ℕ) {e : Device} → WithoutArea d opcode payload time reply r e after → Commanded d opcode payload time area reply r e area after
+          run-on-settings-gives r after a = at-area r a
 
 -- ---- and that function, over its parts
 module _ (d : Device) (opcode : ℕ) (payload : List ℕ) (time : ℕ) (reply : List ℕ) where
-  -- what the call through the pointer ensures: an answer, and the buffer after
+  -- what the call through the pointer ensures: an answer, and the buffer after, whatever the area
   abbrev Ends : ℕ → ℕ → ℕ → Device → List ℕ → Type 0
   Ends code vector n next after =
-      Answered (outcome (state-of d) opcode payload time (length reply)) d (record { code = code; length = n; vector = numbered vector; device = next }) reply after
+      (area : List ℕ) → length area ≡ label-size
+      → Answered (outcome (state-of d) opcode payload time area (length reply)) d (record { code = code; length = n; vector = numbered vector; device = next }) reply after
 
   module _ (v : ValidDevice d × (of-list opcode ≡ true)) (was : Held d) where
     pub list-command-in-place-asks : (1 ≤ d .volatile + d .persistent) × (d .volatile + d .persistent ≤ most-units) × ValidSlots (unit-lines * (d .volatile + d .persistent)) (d .poison .count) (d .poison .starts) (d .poison .lengths) (d .poison .kinds) × (of-list opcode ≡ true)
@@ -109,7 +150,7 @@ module _ (d : Device) (opcode : ℕ) (payload : List ℕ) (time : ℕ) (reply : 
     pub list-command-in-place-gives : (r : ListLeft) (starts lengths kinds after : List ℕ)
         → ListAnswered (d .volatile) (d .persistent) (d .clock) (d .poison) opcode payload time (record { code = r .code; length = r .length; list = list-of starts lengths kinds (r .count) (r .overflow) (r .since) }) reply after
         → Ends (r .code) 0 (r .length) (device-of (d .volatile) (d .persistent) (d .clock) (d .policy) (d .logs) (list-of starts lengths kinds (r .count) (r .overflow) (r .since))) after
-    list-command-in-place-gives r starts lengths kinds after e = command-vector (sym numbered-none) (list-parts-answered d (v .0) e)
+    list-command-in-place-gives r starts lengths kinds after e area sized = command-vector (sym numbered-none) (list-parts-answered d (v .0) area sized e)
 
   -- Inject Poison: the list's arrays and log 0
   module _ (v : ValidDevice d × (of-injection opcode ≡ true)) (was : Held d) (k : ℕ) (named : (k ≡ log-at 0) × (k < 5)) where
@@ -124,7 +165,7 @@ module _ (d : Device) (opcode : ℕ) (payload : List ℕ) (time : ℕ) (reply : 
         let at : (j : ℕ) → j ≡ 0
         → InjectAnswered (d .volatile) (d .persistent) (d .clock) (d .policy) (getD (d .logs) j blank) (d .poison) payload time (record { code = r .code; vector = r .vector; list = list-of starts lengths kinds (r .count) (d .poison .overflow) (d .poison .«overflow_time»); log = r .log }) reply after
         → Ends (r .code) (r .vector) 0 (device-of (d .volatile) (d .persistent) (d .clock) (d .policy) (set (d .logs) j (r .log)) (list-of starts lengths kinds (r .count) (d .poison .overflow) (d .poison .«overflow_time»))) after
-        = λ j z. rw z (λ a. inject-parts-answered d (v .0) opcode (five d was) (v .1) a) in
+        = λ j z. rw z (λ a area sized. inject-parts-answered d (v .0) opcode area sized (five d was) (v .1) a) in
         at k (named .0) (e (d .poison .overflow) (d .poison .«overflow_time»))
 
   -- one log
@@ -134,17 +175,17 @@ module _ (d : Device) (opcode : ℕ) (payload : List ℕ) (time : ℕ) (reply : 
 
     pub log-command-gives : (r : LogParts) (after : List ℕ) → LogAnswered (getD (d .logs) k blank) opcode payload r reply after
         → Ends (r .code) 0 (r .length) (with-log d k (r .log)) after
-    log-command-gives r after e = command-vector (sym numbered-none) (log-parts-answered d (v .0) (five d was) k time (named .0) e)
+    log-command-gives r after e area sized = command-vector (sym numbered-none) (log-parts-answered d (v .0) (five d was) k area sized time (named .0) e)
 
   -- the settings
-  module _ (v : ValidDevice d × (of-list opcode ≡ false) × (of-injection opcode ≡ false) × (of-log opcode ≡ false)) (was : Held d) where
-    pub settings-command-asks : (1 ≤ d .volatile + d .persistent) × (d .volatile + d .persistent ≤ most-units) × (of-list opcode ≡ false) × (of-injection opcode ≡ false) × (of-log opcode ≡ false)
-    settings-command-asks = (v .0 .some-unit, v .0 .few-units, v .1, v .2, v .3)
+  module _ (v : ValidDevice d × (of-area opcode label-size ≡ false) × (of-list opcode ≡ false) × (of-injection opcode ≡ false) × (of-log opcode ≡ false)) (was : Held d) where
+    pub settings-command-asks : (1 ≤ d .volatile + d .persistent) × (d .volatile + d .persistent ≤ most-units) × (of-area opcode label-size ≡ false) × (of-list opcode ≡ false) × (of-injection opcode ≡ false) × (of-log opcode ≡ false)
+    settings-command-asks = (v .0 .some-unit, v .0 .few-units, v .1, v .2, v .3, v .4)
 
     pub settings-command-gives : (r : SettingsParts) (after : List ℕ)
         → SettingsAnswered (d .volatile) (d .persistent) (d .clock) (d .policy) opcode payload time r reply after
         → Ends (r .code) 0 (r .length) (device-of (d .volatile) (d .persistent) (r .clock) (r .policy) (d .logs) (d .poison)) after
-    settings-command-gives r after e = command-vector (sym numbered-none) (settings-parts-answered d (v .0) e)
+    settings-command-gives r after e area sized = command-vector (sym numbered-none) (settings-parts-answered d (v .0) area sized e)
 
 -- ---- the event report
 module _ (d : Device) (time log : ℕ) (event : List ℕ) (v : ValidDevice d) (was : Held d) (k : ℕ) (named : (k ≡ log-at log) × (k < 5)) where

@@ -3,6 +3,7 @@ use Prim.Native.Nat.{ℕ}
 use mathlib.Core.Path.{_≡_}
 use mathlib.Core.List.{List, []}
 use lib.ListN.{length}
+use Rattle.labels.specs.Labels.{label-size}
 use Rattle.poison.specs.State.{PoisonState}
 use Rattle.mailbox.specs.declared.device.Device.{Device}
 use Rattle.mailbox.specs.declared.device.Made.{Made}
@@ -10,7 +11,7 @@ use Rattle.mailbox.specs.declared.device.Answer.{Answer}
 use Rattle.mailbox.specs.declared.device_calls.EventAnswer.{EventAnswer}
 use Rattle.mailbox.specs.declared.device_calls.MediaAnswer.{MediaAnswer}
 use Rattle.mailbox.specs.State.{DeviceState, state-of}
-use Rattle.mailbox.specs.Mailbox.{outcome}
+use Rattle.mailbox.specs.Mailbox.{outcome, area-after}
 use Rattle.mailbox.specs.Contracts.{Answered}
 use Rattle.mailbox.specs.Vector.{numbered}
 use Rattle.mailbox.specs.Clock.{unset}
@@ -31,9 +32,15 @@ made code d = record { code = code; device = d }
 abbrev pub answered : Done → Device → Answer
 answered r d = record { code = r .code; length = r .length; vector = numbered (r .vector); device = d }
 
--- what a command on the device d behind the pointer leaves: the answer r, the device e, and the reply buffer that was `before`
-abbrev pub Commanded : (d : Device) (opcode : ℕ) (payload : List ℕ) (time : ℕ) (before : List ℕ) (r : Done) (e : Device) (after : List ℕ) → Type 0
-Commanded d opcode payload time before r e after = Answered (outcome (state-of d) opcode payload time (length before)) d (answered r e) before after
+-- what a command on the device d behind the pointer leaves: the answer r, the device e, the label area `left` that was `area`, and the reply buffer `after` that was `before`
+abbrev pub Commanded : (d : Device) (opcode : ℕ) (payload : List ℕ) (time : ℕ) (area before : List ℕ) (r : Done) (e : Device) (left after : List ℕ) → Type 0
+Commanded d opcode payload time area before r e left after =
+    Answered (outcome (state-of d) opcode payload time area (length before)) d (answered r e) before after × (left ≡ area-after opcode payload (r .code) area)
+
+-- the same of a command that does not see the label area: its answer whatever area of 4,096 bytes is lent
+abbrev pub WithoutArea : (d : Device) (opcode : ℕ) (payload : List ℕ) (time : ℕ) (before : List ℕ) (r : Done) (e : Device) (after : List ℕ) → Type 0
+WithoutArea d opcode payload time before r e after =
+    (area : List ℕ) → length area ≡ label-size → Answered (outcome (state-of d) opcode payload time area (length before)) d (answered r e) before after
 
 abbrev pub event-told : Event → Device → EventAnswer
 event-told r d = record { code = r .code; stored = r .stored; vector = numbered (r .vector); device = d }

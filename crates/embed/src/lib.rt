@@ -15,15 +15,16 @@ ghost use mathlib.Core.Path.{_≡_};
 ghost use mathlib.Core.Bool.{true, false};
 ghost use Prim.Native.Nat.{_+_, _≤_};
 ghost use lib.ListN.{length};
+ghost use Rattle.labels.specs.Labels.{label-size};
 ghost use Rattle.poison.specs.State.{capacity, ValidRuns};
 ghost use Rattle.poison.specs.LineTest.{list-in};
 ghost use Rattle.mailbox.specs.Numbers.{most-units};
 ghost use Rattle.mailbox.specs.State.{ValidDevice, state-of};
-ghost use Rattle.mailbox.specs.Mailbox.{outcome};
+ghost use Rattle.mailbox.specs.Mailbox.{outcome, area-after};
 ghost use Rattle.mailbox.specs.DeviceCalls.{make, event-report, media-report, line-test, event-status, damage-total};
 ghost use Rattle.mailbox.specs.Contracts.{Answered, Makes, EventDone, MediaDone, StatusGiven};
-ghost use Rattle.mailbox.specs.ByParts.{of-list, of-injection, of-log};
-ghost use Rattle.embed.specs.Left.{made, answered, Commanded, event-told, media-told, LineTold, seen, device-size};
+ghost use Rattle.mailbox.specs.ByParts.{of-area, of-list, of-injection, of-log};
+ghost use Rattle.embed.specs.Left.{made, answered, Commanded, WithoutArea, event-told, media-told, LineTold, seen, device-size};
 
 // The answer to a command: the return number, the number of the vector to raise (document 02, W-204; 0 for none) and the length of the reply.
 #[repr(C)]
@@ -76,8 +77,8 @@ pub extern "C" fn kulduvost_make(device: &mut Device, volatile: u16, persistent:
     a.code
 }
 
-// The four functions below run a command on the part of the device that its opcode sees. Each requires a valid device and an opcode of that part, and ensures what
-// `kulduvost_command` does (`Commanded`).
+// The four functions below run a command on the part of the device that its opcode sees. They are not told of the label area: each requires a valid device and an opcode of that part, and
+// ensures the answer of `kulduvost_command` whatever area of 4,096 bytes is lent (`WithoutArea`).
 // A command of the poison list alone: its arrays are lent.
 fn run_on_list(
     device: &mut Device,
@@ -87,7 +88,7 @@ fn run_on_list(
     reply: &mut [u8],
 ) -> Done
     requires { ⌜ ValidDevice (now device) × (of-list opcode ≡ true) ⌝ }
-    ensures { λ r. ⌜ Commanded (now (device .entry)) opcode (now (payload .entry)) time (now (reply .entry)) r (now (device .exit)) (now (reply .exit)) ⌝ }
+    ensures { λ r. ⌜ WithoutArea (now (device .entry)) opcode (now (payload .entry)) time (now (reply .entry)) r (now (device .exit)) (now (reply .exit)) ⌝ }
 {
     let a = by_parts::list_command_in_place(
         &mut device.poison.starts,
@@ -123,7 +124,7 @@ fn run_injection(
     reply: &mut [u8],
 ) -> Done
     requires { ⌜ ValidDevice (now device) × (of-injection opcode ≡ true) ⌝ }
-    ensures { λ r. ⌜ Commanded (now (device .entry)) opcode (now (payload .entry)) time (now (reply .entry)) r (now (device .exit)) (now (reply .exit)) ⌝ }
+    ensures { λ r. ⌜ WithoutArea (now (device .entry)) opcode (now (payload .entry)) time (now (reply .entry)) r (now (device .exit)) (now (reply .exit)) ⌝ }
 {
     let k = by_parts::log_at(0);
     let a = by_parts::inject_in_place(
@@ -152,7 +153,7 @@ fn run_injection(
 // A command of one event log: that log is copied out and stored back.
 fn run_on_log(device: &mut Device, opcode: u16, payload: &[u8], time: u64, reply: &mut [u8]) -> Done
     requires { ⌜ ValidDevice (now device) × (of-log opcode ≡ true) ⌝ }
-    ensures { λ r. ⌜ Commanded (now (device .entry)) opcode (now (payload .entry)) time (now (reply .entry)) r (now (device .exit)) (now (reply .exit)) ⌝ }
+    ensures { λ r. ⌜ WithoutArea (now (device .entry)) opcode (now (payload .entry)) time (now (reply .entry)) r (now (device .exit)) (now (reply .exit)) ⌝ }
 {
     let k = by_parts::log_named(payload);
     let a = by_parts::log_command(device.logs[k], opcode, payload, reply);
@@ -172,8 +173,8 @@ fn run_on_settings(
     time: u64,
     reply: &mut [u8],
 ) -> Done
-    requires { ⌜ ValidDevice (now device) × (of-list opcode ≡ false) × (of-injection opcode ≡ false) × (of-log opcode ≡ false) ⌝ }
-    ensures { λ r. ⌜ Commanded (now (device .entry)) opcode (now (payload .entry)) time (now (reply .entry)) r (now (device .exit)) (now (reply .exit)) ⌝ }
+    requires { ⌜ ValidDevice (now device) × (of-area opcode label-size ≡ false) × (of-list opcode ≡ false) × (of-injection opcode ≡ false) × (of-log opcode ≡ false) ⌝ }
+    ensures { λ r. ⌜ WithoutArea (now (device .entry)) opcode (now (payload .entry)) time (now (reply .entry)) r (now (device .exit)) (now (reply .exit)) ⌝ }
 {
     let a = by_parts::settings_command(
         device.volatile,
@@ -194,20 +195,38 @@ fn run_on_settings(
     }
 }
 
-// A command, with the caller's time. The reply is written to the lent buffer, and the device behind the pointer is the one that follows. An opcode sees the poison list, or
-// the list and log 0, or one event log, or the settings: a function for each of these has the device handed on.
-// Requires a valid device. Ensures that the number, the length, the vector, every byte of the buffer and the device left are those of `outcome`, that a refusal leaves the very same
-// device, and that the device left is valid.
-#[no_mangle]
-pub extern "C" fn kulduvost_command(
+// The two functions below run a command with the label area at hand (document 02, W-206); each ensures what `kulduvost_command` does (`Commanded`).
+// What the area decides, it decides without the device: Get LSA, Set LSA, and 0100h where it has not 4,096 bytes.
+fn run_on_area(
     device: &mut Device,
     opcode: u16,
     payload: &[u8],
     time: u64,
+    area: &mut [u8],
     reply: &mut [u8],
 ) -> Done
-    requires { ⌜ ValidDevice (now device) ⌝ }
-    ensures { λ r. ⌜ Answered (outcome (state-of (now (device .entry))) opcode (now (payload .entry)) time (length (now (reply .entry)))) (now (device .entry)) (answered r (now (device .exit))) (now (reply .entry)) (now (reply .exit)) ⌝ }
+    requires { ⌜ ValidDevice (now device) × (of-area opcode (length (now area)) ≡ true) ⌝ }
+    ensures { λ r. ⌜ Commanded (now (device .entry)) opcode (now (payload .entry)) time (now (area .entry)) (now (reply .entry)) r (now (device .exit)) (now (area .exit)) (now (reply .exit)) ⌝ }
+{
+    let a = by_parts::area_command(opcode, payload, area, reply);
+    Done {
+        code: a.code,
+        vector: 0,
+        length: a.length,
+    }
+}
+
+// Every other command leaves the area. An opcode sees the poison list, or the list and log 0, or one event log, or the settings: a function for each of these has the device handed on.
+fn run_on_device(
+    device: &mut Device,
+    opcode: u16,
+    payload: &[u8],
+    time: u64,
+    area: &mut [u8],
+    reply: &mut [u8],
+) -> Done
+    requires { ⌜ ValidDevice (now device) × (of-area opcode (length (now area)) ≡ false) ⌝ }
+    ensures { λ r. ⌜ Commanded (now (device .entry)) opcode (now (payload .entry)) time (now (area .entry)) (now (reply .entry)) r (now (device .exit)) (now (area .exit)) (now (reply .exit)) ⌝ }
 {
     if by_parts::of_list(opcode) {
         return run_on_list(device, opcode, payload, time, reply);
@@ -217,6 +236,29 @@ pub extern "C" fn kulduvost_command(
         return run_on_log(device, opcode, payload, time, reply);
     } else {
         return run_on_settings(device, opcode, payload, time, reply);
+    }
+}
+
+// A command, with the caller's time. The reply is written to the lent buffer, the label area that is lent is written by Set LSA alone, and the device behind the pointer is the one that
+// follows.
+// Requires a valid device. Ensures that the number, the length, the vector, every byte of the buffer and the device left are those of `outcome`, that every byte of the area is that of
+// `area-after`, that a refusal leaves the very same device, and that the device left is valid.
+#[no_mangle]
+pub extern "C" fn kulduvost_command(
+    device: &mut Device,
+    opcode: u16,
+    payload: &[u8],
+    time: u64,
+    area: &mut [u8],
+    reply: &mut [u8],
+) -> Done
+    requires { ⌜ ValidDevice (now device) ⌝ }
+    ensures { λ r. ⌜ Answered (outcome (state-of (now (device .entry))) opcode (now (payload .entry)) time (now (area .entry)) (length (now (reply .entry)))) (now (device .entry)) (answered r (now (device .exit))) (now (reply .entry)) (now (reply .exit)) × (now (area .exit) ≡ area-after opcode (now (payload .entry)) (r .code) (now (area .entry))) ⌝ }
+{
+    if by_parts::of_area(opcode, area.len()) {
+        return run_on_area(device, opcode, payload, time, area, reply);
+    } else {
+        return run_on_device(device, opcode, payload, time, area, reply);
     }
 }
 

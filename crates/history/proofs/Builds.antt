@@ -7,20 +7,21 @@ use mathlib.Core.List.{List, [], _∷_, _++_}
 use native.Mathlib.Omega.{arith}
 use borrow.Author.Tests.{eq-eqb, eqb-true, ltb-true}
 use lib.Dec.{eqb, ltb}
-use lib.ListN.{length, take, getD, replicate}
+use lib.ListN.{length, take, getD, replicate, length-replicate}
 use Rattle.poison.specs.Runs.{total}
 use Rattle.poison.specs.State.{shapes, damage-total}
 use Rattle.poison.specs.LineTest.{answer-number}
 use Rattle.events.specs.Log.{LogState, log-at}
+use Rattle.labels.specs.Labels.{label-size, zero-area}
 use Rattle.mailbox.specs.State.{DeviceState, ValidDevice, state-of}
 use Rattle.mailbox.specs.declared.device.Device.{Device}
 use Rattle.mailbox.specs.Commands.{commands, known}
 use Rattle.mailbox.specs.EffectsLog.{effects-log-id}
 use Rattle.mailbox.specs.Outcome.{Outcome}
-use Rattle.mailbox.specs.Mailbox.{outcome}
+use Rattle.mailbox.specs.Mailbox.{outcome, area-after}
 use Rattle.mailbox.specs.DeviceCalls as Device
 use Rattle.wire.specs.Wire.{splice}
-use Rattle.history.specs.Builds.{all-bytes, Slice, MakeAsked, CommandAsked, EventAsked, MediaAsked, LineAsked, Build, Handed, by-make, by-command, by-event-report, by-media-report, Meets, RefusesAll, RefusesOne, every-make, every-command, every-event-report, every-media-report, every-line-test, reply-of, FixedReply, among, telling, TellsNothing, of-command, of-event-report, of-media-report, of-line-test, of-event-status, of-damage-total, ChangesNothing, changing, LeavesOne, KeepsFirst, of-media, of-events}
+use Rattle.history.specs.Builds.{all-bytes, Slice, MakeAsked, CommandAsked, EventAsked, MediaAsked, LineAsked, Build, Handed, by-make, by-command, by-event-report, by-media-report, Meets, RefusesAll, RefusesOne, every-make, every-command, every-event-report, every-media-report, every-line-test, reply-of, FixedReply, among, telling, TellsNothing, of-command, of-labels, of-event-report, of-media-report, of-line-test, of-event-status, of-damage-total, ChangesNothing, changing, LeavesOne, KeepsFirst, of-media, of-events}
 use Rattle.wire.proofs.Laws.{and-parts}
 use Rattle.history.proofs.Computing.{rules}
 
@@ -40,19 +41,25 @@ slice xs e =
 abbrev buffer : List ℕ
 buffer = replicate 2048 0
 
--- a command at time 0 with that buffer
-abbrev asks : (opcode : ℕ) (payload : List ℕ) → ltb opcode 65536 ≡ true → short payload ≡ true → CommandAsked
-asks opcode payload o p =
+-- a command at time 0 with that buffer and a label area of bytes
+abbrev lends : (area : List ℕ) → all-bytes area ≡ true → length area ≡ label-size → (opcode : ℕ) (payload : List ℕ) → ltb opcode 65536 ≡ true → short payload ≡ true → CommandAsked
+lends area each sized opcode payload o p =
     record {
       opcode = opcode;
       payload = payload;
       time = 0;
+      area = area;
       before = buffer;
       opcode-u16 = ltb-true opcode 65536 o;
       payload-slice = slice payload p;
       time-u64 = omega arith;
+      area-slice = record { bytes = each; room = omega (arith, sized) };
       before-slice = slice buffer refl;
     }
+
+-- the same with an area of zeros
+abbrev asks : (opcode : ℕ) (payload : List ℕ) → ltb opcode 65536 ≡ true → short payload ≡ true → CommandAsked
+asks = lends zero-area refl (length-replicate {A = ℕ} label-size 0)
 
 -- ---- devices of a build
 -- a device that the build handed out, valid, with a view
@@ -70,7 +77,7 @@ module _ {b : Build} (m : Meets b) where
   module _ {s : DeviceState} (p : At b s) where
     -- what the definitions say of a command on the view
     abbrev defined : CommandAsked → Outcome
-    defined a = outcome s (a .opcode) (a .payload) (a .time) (length (a .before))
+    defined a = outcome s (a .opcode) (a .payload) (a .time) (a .area) (length (a .before))
 
     -- the device after a call
     commanded : (a : CommandAsked) → At b (defined a .next)
@@ -80,7 +87,7 @@ module _ {b : Build} (m : Meets b) where
           device = b .command (p .device) a .answer .device;
           handed = by-command (p .device) (p .handed) a;
           valid = r .valid;
-          view = r .next ∙ ap (λ x. outcome x (a .opcode) (a .payload) (a .time) (length (a .before)) .next) (p .view);
+          view = r .next ∙ ap (λ x. outcome x (a .opcode) (a .payload) (a .time) (a .area) (length (a .before)) .next) (p .view);
         }
 
     event-reported : (a : EventAsked) → At b (Device.event-report s (a .time) (a .log) (a .event) .next)
@@ -107,13 +114,13 @@ module _ {b : Build} (m : Meets b) where
     command-code : (a : CommandAsked) → b .command (p .device) a .answer .code ≡ defined a .code
     command-code a =
         m .command (p .device) (p .handed) (p .valid) a .code
-        ∙ ap (λ x. outcome x (a .opcode) (a .payload) (a .time) (length (a .before)) .code) (p .view)
+        ∙ ap (λ x. outcome x (a .opcode) (a .payload) (a .time) (a .area) (length (a .before)) .code) (p .view)
 
     command-reply : (a : CommandAsked) → reply-of (b .command (p .device) a) ≡ take (length (defined a .reply)) (splice 0 (defined a .reply) (a .before))
     command-reply a =
         let r = m .command (p .device) (p .handed) (p .valid) a in
         ap₂ take (r .size) (r .bytes)
-        ∙ ap (λ x. take (length (outcome x (a .opcode) (a .payload) (a .time) (length (a .before)) .reply)) (splice 0 (outcome x (a .opcode) (a .payload) (a .time) (length (a .before)) .reply) (a .before))) (p .view)
+        ∙ ap (λ x. take (length (outcome x (a .opcode) (a .payload) (a .time) (a .area) (length (a .before)) .reply)) (splice 0 (outcome x (a .opcode) (a .payload) (a .time) (a .area) (length (a .before)) .reply) (a .before))) (p .view)
 
     event-code : (a : EventAsked) → b .event-report (p .device) a .code ≡ Device.event-report s (a .time) (a .log) (a .event) .code
     event-code a = m .event-report (p .device) (p .handed) (p .valid) a .code ∙ ap (λ x. Device.event-report x (a .time) (a .log) (a .event) .code) (p .view)
@@ -178,7 +185,7 @@ record Succeeds (opcode : ℕ) : Type 0 where
   payload : List ℕ
   small : ltb opcode 65536 ≡ true
   lent : short payload ≡ true
-  code : outcome (Device.make 1 0 .next) opcode payload 0 2048 .code ≡ 0
+  code : outcome (Device.make 1 0 .next) opcode payload 0 zero-area 2048 .code ≡ 0
 
 -- what holds of k, and of n where the rest of a test holds, holds of n
 one-of : (P : ℕ → Type 0) (n k : ℕ) (rest : Bool) → P k → (rest ≡ true → P n) → (eqb n k || rest) ≡ true → P n
@@ -205,12 +212,14 @@ succeeds n =
     (one-of Succeeds n 0x0400 _ (zeros 0x0400 0 refl refl refl)
     (one-of Succeeds n 0x0401 _ (record { payload = effects-log-id ++ replicate 8 0; small = refl; lent = refl; code = refl })
     (one-of Succeeds n 0x4000 _ (zeros 0x4000 0 refl refl refl)
+    (one-of Succeeds n 0x4102 _ (zeros 0x4102 8 refl refl refl)
+    (one-of Succeeds n 0x4103 _ (zeros 0x4103 8 refl refl refl)
     (one-of Succeeds n 0x4300 _ (zeros 0x4300 16 refl refl refl)
     (one-of Succeeds n 0x4301 _ (zeros 0x4301 8 refl refl refl)
     (one-of Succeeds n 0x4302 _ (zeros 0x4302 72 refl refl refl)
-    none-of)))))))))))
+    none-of)))))))))))))
   where
-    zeros : (k n : ℕ) → ltb k 65536 ≡ true → short (replicate n 0) ≡ true → outcome (Device.make 1 0 .next) k (replicate n 0) 0 2048 .code ≡ 0 → Succeeds k
+    zeros : (k n : ℕ) → ltb k 65536 ≡ true → short (replicate n 0) ≡ true → outcome (Device.make 1 0 .next) k (replicate n 0) 0 zero-area 2048 .code ≡ 0 → Succeeds k
     zeros k n s l c = record { payload = replicate n 0; small = s; lent = l; code = c }
 
 -- A build that refuses every call of one kind, be it only every command of one opcode, does not meet the contracts.
@@ -238,7 +247,7 @@ differ {x} {y} d e = none-of (sym d ∙ eq-eqb x y e)
 -- ---- one with a fixed reply
 -- the bytes that the definitions put into the buffer for a command with a payload on a device
 abbrev written : DeviceState → ℕ → List ℕ → List ℕ
-written s opcode payload = take (length (outcome s opcode payload 0 2048 .reply)) (splice 0 (outcome s opcode payload 0 2048 .reply) buffer)
+written s opcode payload = take (length (outcome s opcode payload 0 zero-area 2048 .reply)) (splice 0 (outcome s opcode payload 0 zero-area 2048 .reply) buffer)
 
 -- two devices of the build that answer a command of the opcode with replies that differ at a place
 record Told (b : Build) (opcode : ℕ) : Type 0 where
@@ -249,8 +258,8 @@ record Told (b : Build) (opcode : ℕ) : Type 0 where
   right-view : DeviceState
   left : At b left-view
   right : At b right-view
-  left-code : outcome left-view opcode payload 0 2048 .code ≡ 0
-  right-code : outcome right-view opcode payload 0 2048 .code ≡ 0
+  left-code : outcome left-view opcode payload 0 zero-area 2048 .code ≡ 0
+  right-code : outcome right-view opcode payload 0 zero-area 2048 .code ≡ 0
   place : ℕ
   apart : eqb (getD (written left-view opcode payload) place 0) (getD (written right-view opcode payload) place 0) ≡ false
 
@@ -269,8 +278,8 @@ tells b m n =
     new : At b (Device.make 1 0 .next)
     new = made m one-unit
 
-    against : (opcode : ℕ) (payload : List ℕ) → ltb opcode 65536 ≡ true → short payload ≡ true → outcome (Device.make 1 0 .next) opcode payload 0 2048 .code ≡ 0
-        → {s : DeviceState} → At b s → outcome s opcode payload 0 2048 .code ≡ 0
+    against : (opcode : ℕ) (payload : List ℕ) → ltb opcode 65536 ≡ true → short payload ≡ true → outcome (Device.make 1 0 .next) opcode payload 0 zero-area 2048 .code ≡ 0
+        → {s : DeviceState} → At b s → outcome s opcode payload 0 zero-area 2048 .code ≡ 0
         → (place : ℕ) → eqb (getD (written (Device.make 1 0 .next) opcode payload) place 0) (getD (written s opcode payload) place 0) ≡ false → Told b opcode
     against opcode payload small lent c {s} r d place apart =
         record {
@@ -288,7 +297,7 @@ tells b m n =
         }
 
 -- A build in which one kind of call, be it only the commands of one opcode that tell of the device, answers the same whatever device is asked does not meet
--- the contracts. The other witnesses, against a new device of one unit: an event to log 0 after eight of them; damage at line 0 after the same damage; a test of
+-- the contracts. The other witnesses, against a new device of one unit: a Get LSA of the first byte of zeros, and of an area that begins with 1; an event to log 0 after eight of them; damage at line 0 after the same damage; a test of
 -- line 0 after damage there; event status after an event; damage total after damage.
 pub tells-nothing-fails : (b : Build) → TellsNothing b → Meets b → ⊥
 unfolding rules
@@ -297,6 +306,13 @@ tells-nothing-fails b (of-command opcode k f) m =
     let a = asks opcode (w .payload) (w .small) (w .lent) in
     let same = f (w .left .device) (w .right .device) (w .left .handed) (w .right .handed) a refl (command-code m (w .left) a ∙ w .left-code) (command-code m (w .right) a ∙ w .right-code) in
     differ (w .apart) (ap (λ (bytes : List ℕ). getD bytes (w .place) 0) (sym (command-reply m (w .left) a) ∙ same ∙ command-reply m (w .right) a))
+tells-nothing-fails b (of-labels f) m =
+    let new = made m one-unit in
+    let p : List ℕ = replicate 4 0 ++ (1 ∷ replicate 3 0) in
+    let zero = asks 0x4102 p refl refl in
+    let one = lends (1 ∷ replicate 4095 0) refl refl 0x4102 p refl refl in
+    let same = f (new .device) (new .handed) zero one refl refl refl (command-code m new zero) (command-code m new one) in
+    differ {x = 0} {y = 1} refl (ap (λ (bytes : List ℕ). getD bytes 0 9) (sym (command-reply m new zero) ∙ same ∙ command-reply m new one))
 tells-nothing-fails b (of-event-report f) m =
     let new = made m one-unit in
     let full = events-reported m 8 in
@@ -342,7 +358,7 @@ record Changed (b : Build) (opcode : ℕ) : Type 0 where
   view : DeviceState
   start : At b view
   seen : DeviceState → ℕ
-  apart : eqb (seen (outcome view opcode payload 0 2048 .next)) (seen view) ≡ false
+  apart : eqb (seen (outcome view opcode payload 0 zero-area 2048 .next)) (seen view) ≡ false
 
 -- the witnesses: handle 1 of log 0 cleared after an event (0101h); log 0 enabled (0103h); the clock set to 0 (0301h); line 0 injected (4301h); line 0 cleared after
 -- damage there (4302h)
@@ -360,7 +376,7 @@ changes b m n =
     new = made m one-unit
 
     seeing : (opcode : ℕ) (payload : List ℕ) → ltb opcode 65536 ≡ true → short payload ≡ true → {s : DeviceState} → At b s → (seen : DeviceState → ℕ)
-        → eqb (seen (outcome s opcode payload 0 2048 .next)) (seen s) ≡ false → Changed b opcode
+        → eqb (seen (outcome s opcode payload 0 zero-area 2048 .next)) (seen s) ≡ false → Changed b opcode
     seeing opcode payload small lent {s} p seen apart = record { payload = payload; small = small; lent = lent; view = s; start = p; seen = seen; apart = apart }
 
 -- no number that differs before and after a call by the definitions is the same of the two devices
@@ -375,6 +391,11 @@ leaves-one-fails b (LeavesOne.every-command opcode k f) m =
     let w = changes b m opcode k in
     let a = asks opcode (w .payload) (w .small) (w .lent) in
     unchanged (w .seen) (w .start) (commanded m (w .start) a) (w .apart) (ap (w .seen) (f (w .start .device) (w .start .handed) a refl))
+leaves-one-fails b (LeavesOne.every-label-set f) m =
+    let new = made m one-unit in
+    let a = asks 0x4103 (replicate 8 0 ++ (1 ∷ [])) refl refl in
+    let left = m .labels (new .device) (new .handed) (new .valid) a ∙ ap (λ (n : ℕ). area-after 0x4103 (a .payload) n zero-area) (command-code m new a) in
+    differ {x = 0} {y = 1} refl (ap (λ (bytes : List ℕ). getD bytes 0 9) (sym (f (new .device) (new .handed) a refl) ∙ left))
 leaves-one-fails b (LeavesOne.every-event-report f) m =
     let p = made m one-unit in
     unchanged waiting p (event-reported m p an-event) refl (ap waiting (f (p .device) (p .handed) an-event))

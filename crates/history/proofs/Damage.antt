@@ -40,7 +40,7 @@ one-line k = simp (le-leb k k (omega arith), lt-ltb k (k + 1) (omega arith))
 
 pub set-reported : (p : Paper) (c : Call) (code k : ℕ) → reports c code k ≡ true → write p c code .set k ≡ true
 unfolding write paper-inject paper-report
-set-reported p (command opcode payload time room) code k e =
+set-reported p (command opcode payload time area room) code k e =
     let done = and-parts (eqb code 0) _ e in
     let two = and-parts (eqb opcode 0x4301) (eqb k (line-of (field payload 0 8))) (done .1) in
     let same = eqb-true k (line-of (field payload 0 8)) (two .1) in
@@ -56,7 +56,7 @@ set-reported p damage-total code k e = absurd (false≢true e)
 -- ---- a call that does not clear it leaves it there
 pub set-kept : (p : Paper) (c : Call) (code k : ℕ) → p .set k ≡ true → clears c code k ≡ false → write p c code .set k ≡ true
 unfolding write paper-inject paper-clear paper-report
-set-kept p (command opcode payload time room) code k h e = done (eqb code 0) e
+set-kept p (command opcode payload time area room) code k h e = done (eqb code 0) e
   where
     done : (b : Bool) → (b && (eqb opcode 0x4302 && eqb k (line-of (field payload 0 8)))) ≡ false → cond b (write-command p opcode payload) p .set k ≡ true
     done false e = h

@@ -12,6 +12,8 @@ use Rattle.events.specs.Log.{LogState, ValidState, log-at}
 use Rattle.events.specs.Get as Get
 use Rattle.events.specs.Drain.{more-bit, clear-read}
 use Rattle.events.proofs.Laws as Logs
+use Rattle.labels.specs.Labels.{label-size}
+use Rattle.mailbox.specs.Commands.{admission}
 use Rattle.mailbox.specs.Numbers.{mailbox-size, event-records}
 use Rattle.mailbox.specs.State.{DeviceState, state-of}
 use Rattle.mailbox.specs.Vector.{no-vector}
@@ -45,14 +47,14 @@ sound-lasts =
     }
 
 -- ---- two commands on a device whose log k is sound
-module _ (d : DeviceState) (k time room : ℕ) (accepted : read d k time room .code ≡ 0) where
+module _ (d : DeviceState) (k time : ℕ) (area : List ℕ) (room : ℕ) (accepted : read d k time area room .code ≡ 0) where
   -- a read that is accepted is the event layer's, and leaves the device
   abbrev given : Get.GetOutcome
   given = Get.get-event-records event-records (d .logs) k
 
-  read-is : read d k time room ≡ record { code = given .code; reply = given .reply; vector = no-vector; next = d }
+  read-is : read d k time area room ≡ record { code = given .code; reply = given .reply; vector = no-vector; next = d }
   unfolding run-command get-event-records
-  read-is = accepted-runs d 0x0100 (k ∷ []) time room accepted
+  read-is = accepted-runs d 0x0100 (k ∷ []) time area room accepted
 
   right : given .code ≡ 0
   right = sym (ap (λ (o : Outcome). o .code) read-is) ∙ accepted
@@ -62,24 +64,24 @@ module _ (d : DeviceState) (k time room : ℕ) (accepted : read d k time room .c
   one-of-five = Logs.read-log event-records (d .logs) k right .0
 
   module _ (sound : Sound (log-at (d .logs) k)) where
-    bit-clear : more-bit (read d k time room .reply) ≡ 0
+    bit-clear : more-bit (read d k time area room .reply) ≡ 0
     bit-clear = rw read-is (Logs.bit-never-set event-records (d .logs) k right (sound .valid) (omega arith))
 
-    module _ (t r : ℕ) where
+    module _ (t : ℕ) (labels : List ℕ) (r : ℕ) where
       -- the clear of what it gave is the event layer's too, where it is let through
-      answered : mailbox-size ≤ r → then-clear d k time room t r .code ≡ 0
+      answered : length labels ≡ label-size → mailbox-size ≤ r → then-clear d k time area room t labels r .code ≡ 0
       unfolding run-command clear-event-records
-      answered fits =
+      answered sized fits =
           let size = Logs.clear-length event-records (d .logs) k right (sound .valid) (sound .whole) in
-          let admitted = clear-events-admitted (length (clear-read k (given .reply))) r fits (size .0) (omega (arith, size .1)) in
-          rw (read-is, admitted-runs d 0x0101 (clear-read k (given .reply)) t r admitted)
+          let admitted = ap (λ (n : ℕ). admission 0x0101 (length (clear-read k (given .reply))) n r) sized ∙ clear-events-admitted (length (clear-read k (given .reply))) r fits (size .0) (omega (arith, size .1)) in
+          rw (read-is, admitted-runs d 0x0101 (clear-read k (given .reply)) t labels r admitted)
           (Logs.clear-answered event-records (d .logs) k right (sound .valid) (sound .whole))
 
-      empty : more-bit (read d k time room .reply) ≡ 0 → then-clear d k time room t r .code ≡ 0 → log-at (then-clear d k time room t r .next .logs) k .held ≡ []
+      empty : more-bit (read d k time area room .reply) ≡ 0 → then-clear d k time area room t labels r .code ≡ 0 → log-at (then-clear d k time area room t labels r .next .logs) k .held ≡ []
       unfolding run-command clear-event-records
       empty bit e =
-          let z : clear d k (given .reply) t r .code ≡ 0 = rw read-is at e in
-          rw (read-is, accepted-runs d 0x0101 (clear-read k (given .reply)) t r z)
+          let z : clear d k (given .reply) t labels r .code ≡ 0 = rw read-is at e in
+          rw (read-is, accepted-runs d 0x0101 (clear-read k (given .reply)) t labels r z)
           (Logs.clear-drains event-records (d .logs) k right (sound .valid) (sound .whole) (rw read-is at bit))
 
 -- ---- from any device reached by calls on a new one
@@ -88,25 +90,25 @@ sound-reached v p calls k five = reached-holds sound-lasts v p calls .logs k fiv
 
 -- The drain theorem: a read of log k answered Success with bit 1 of its reply's byte 0 clear, and then the clear made from that reply alone, answered Success, leave
 -- log k with no record.
-pub drained : (v p : ℕ) (calls : List Call) (k time room t r : ℕ)
-    → read (reached v p calls) k time room .code ≡ 0
-    → more-bit (read (reached v p calls) k time room .reply) ≡ 0
-    → then-clear (reached v p calls) k time room t r .code ≡ 0
-    → log-at (then-clear (reached v p calls) k time room t r .next .logs) k .held ≡ []
-drained v p calls k time room t r accepted =
-    empty (reached v p calls) k time room accepted (sound-reached v p calls k (one-of-five (reached v p calls) k time room accepted)) t r
+pub drained : (v p : ℕ) (calls : List Call) (k time : ℕ) (area : List ℕ) (room t : ℕ) (labels : List ℕ) (r : ℕ)
+    → read (reached v p calls) k time area room .code ≡ 0
+    → more-bit (read (reached v p calls) k time area room .reply) ≡ 0
+    → then-clear (reached v p calls) k time area room t labels r .code ≡ 0
+    → log-at (then-clear (reached v p calls) k time area room t labels r .next .logs) k .held ≡ []
+drained v p calls k time area room t labels r accepted =
+    empty (reached v p calls) k time area room accepted (sound-reached v p calls k (one-of-five (reached v p calls) k time area room accepted)) t labels r
 
--- That clear is answered Success wherever its reply buffer is large enough (whether More is set or not).
-pub clear-accepted : (v p : ℕ) (calls : List Call) (k time room t r : ℕ)
-    → read (reached v p calls) k time room .code ≡ 0 → mailbox-size ≤ r → then-clear (reached v p calls) k time room t r .code ≡ 0
-clear-accepted v p calls k time room t r accepted =
-    answered (reached v p calls) k time room accepted (sound-reached v p calls k (one-of-five (reached v p calls) k time room accepted)) t r
+-- That clear is answered Success wherever its reply buffer is large enough and the label area lent with it has 4,096 bytes (whether More is set or not).
+pub clear-accepted : (v p : ℕ) (calls : List Call) (k time : ℕ) (area : List ℕ) (room t : ℕ) (labels : List ℕ) (r : ℕ)
+    → read (reached v p calls) k time area room .code ≡ 0 → length labels ≡ label-size → mailbox-size ≤ r → then-clear (reached v p calls) k time area room t labels r .code ≡ 0
+clear-accepted v p calls k time area room t labels r accepted =
+    answered (reached v p calls) k time area room accepted (sound-reached v p calls k (one-of-five (reached v p calls) k time area room accepted)) t labels r
 
 -- A reply carries up to 15 records, and a log holds at most eight: More is never set.
-pub more-never-set : (v p : ℕ) (calls : List Call) (k time room : ℕ)
-    → read (reached v p calls) k time room .code ≡ 0 → more-bit (read (reached v p calls) k time room .reply) ≡ 0
-more-never-set v p calls k time room accepted =
-    bit-clear (reached v p calls) k time room accepted (sound-reached v p calls k (one-of-five (reached v p calls) k time room accepted))
+pub more-never-set : (v p : ℕ) (calls : List Call) (k time : ℕ) (area : List ℕ) (room : ℕ)
+    → read (reached v p calls) k time area room .code ≡ 0 → more-bit (read (reached v p calls) k time area room .reply) ≡ 0
+more-never-set v p calls k time area room accepted =
+    bit-clear (reached v p calls) k time area room accepted (sound-reached v p calls k (one-of-five (reached v p calls) k time area room accepted))
 
 -- ---- the same of the code
 -- the bytes that the code wrote are the definitions' reply
@@ -116,37 +118,37 @@ reply-read o d a before after answered =
     ap₂ take (answered .size) (answered .bytes) ∙ take-at (o .reply) (drop (0 + length (o .reply)) before) (length (o .reply)) refl
 
 -- A run of the code, and then a call of `command` that reads log k and is answered Success; `after` is what the lent buffer then holds.
-module _ (v p : ℕ) (cs : List Call) (d : Device) (w : Paper) (ran : Ran v p cs d w) (k time : ℕ) (before after : List ℕ) (a : Answer)
-    (asked : Answered (outcome (state-of d) 0x0100 (k ∷ []) time (length before)) d a before after) (success : a .code ≡ 0) where
-  accepted : read (state-of d) k time (length before) .code ≡ 0
+module _ (v p : ℕ) (cs : List Call) (d : Device) (w : Paper) (ran : Ran v p cs d w) (k time : ℕ) (area before after : List ℕ) (a : Answer)
+    (asked : Answered (outcome (state-of d) 0x0100 (k ∷ []) time area (length before)) d a before after) (success : a .code ≡ 0) where
+  accepted : read (state-of d) k time area (length before) .code ≡ 0
   accepted = sym (asked .code) ∙ success
 
-  reply-is : reply-in after a ≡ read (state-of d) k time (length before) .reply
-  reply-is = reply-read (outcome (state-of d) 0x0100 (k ∷ []) time (length before)) d a before after asked
+  reply-is : reply-in after a ≡ read (state-of d) k time area (length before) .reply
+  reply-is = reply-read (outcome (state-of d) 0x0100 (k ∷ []) time area (length before)) d a before after asked
 
   sound-ran : Sound (log-at (state-of d .logs) k)
   sound-ran =
       let e : state-of d ≡ reached v p cs = ran-history v p cs d w ran .0 ∙ device-after (Device.make v p .next) blank-paper cs in
-      subst (λ (s : DeviceState). Sound (log-at (s .logs) k)) (sym e) (sound-reached v p cs k (one-of-five (state-of d) k time (length before) accepted))
+      subst (λ (s : DeviceState). Sound (log-at (s .logs) k)) (sym e) (sound-reached v p cs k (one-of-five (state-of d) k time area (length before) accepted))
 
   -- More is clear in the buffer.
   pub code-more-never-set : more-bit (reply-in after a) ≡ 0
-  code-more-never-set = rw reply-is (bit-clear (state-of d) k time (length before) accepted sound-ran)
+  code-more-never-set = rw reply-is (bit-clear (state-of d) k time area (length before) accepted sound-ran)
 
   -- Then a call of `command` on the device handed back, with the payload made from that buffer.
-  module _ (t : ℕ) (room rest : List ℕ) (b : Answer)
-      (sent : Answered (outcome (state-of (a .device)) 0x0101 (clear-read k (reply-in after a)) t (length room)) (a .device) b room rest) where
-    cleared : outcome (state-of (a .device)) 0x0101 (clear-read k (reply-in after a)) t (length room) ≡ then-clear (state-of d) k time (length before) t (length room)
+  module _ (t : ℕ) (labels room rest : List ℕ) (b : Answer)
+      (sent : Answered (outcome (state-of (a .device)) 0x0101 (clear-read k (reply-in after a)) t labels (length room)) (a .device) b room rest) where
+    cleared : outcome (state-of (a .device)) 0x0101 (clear-read k (reply-in after a)) t labels (length room) ≡ then-clear (state-of d) k time area (length before) t labels (length room)
     cleared = rw (asked .next, reply-is)
 
-    -- It is answered Success wherever its buffer is large enough,
-    pub code-clear-accepted : mailbox-size ≤ length room → b .code ≡ 0
-    code-clear-accepted fits =
-        sent .code ∙ ap (λ (o : Outcome). o .code) cleared ∙ answered (state-of d) k time (length before) accepted sound-ran t (length room) fits
+    -- It is answered Success wherever its buffer is large enough and its label area has 4,096 bytes,
+    pub code-clear-accepted : length labels ≡ label-size → mailbox-size ≤ length room → b .code ≡ 0
+    code-clear-accepted sized fits =
+        sent .code ∙ ap (λ (o : Outcome). o .code) cleared ∙ answered (state-of d) k time area (length before) accepted sound-ran t labels (length room) sized fits
 
     -- and after a read with More clear, answered Success, it hands back a device whose log k holds no record.
     pub code-drained : more-bit (reply-in after a) ≡ 0 → b .code ≡ 0 → log-at (state-of (b .device) .logs) k .held ≡ []
     code-drained bit done =
         ap (λ (s : DeviceState). log-at (s .logs) k .held) (sent .next ∙ ap (λ (o : Outcome). o .next) cleared)
-        ∙ empty (state-of d) k time (length before) accepted sound-ran t (length room) (ap more-bit (sym reply-is) ∙ bit)
+        ∙ empty (state-of d) k time area (length before) accepted sound-ran t labels (length room) (ap more-bit (sym reply-is) ∙ bit)
         (sym (ap (λ (o : Outcome). o .code) cleared) ∙ sym (sent .code) ∙ done)

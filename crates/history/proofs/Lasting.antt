@@ -240,9 +240,9 @@ module _ {P : LogState → Type 0} (lasting : Lasting P) where
         (record { kept = list-kept _ follows })
 
     -- after a command
-    run-leaves : (op : ℕ) (p : List ℕ) (time : ℕ) → Leaves (run-command s op p time)
+    run-leaves : (op : ℕ) (p : List ℕ) (time : ℕ) (area : List ℕ) → Leaves (run-command s op p time area)
     unfolding run-command clear-event-records
-    run-leaves op p time =
+    run-leaves op p time area =
         either Leaves (eqb op 0x0100) (stays _ refl)
         (either Leaves (eqb op 0x0101) (record { kept = logs-kept _ (clear-keeps lasting (s .logs) (h .logs) p) })
         (either Leaves (eqb op 0x0102) (stays _ refl)
@@ -252,14 +252,16 @@ module _ {P : LogState → Type 0} (lasting : Lasting P) where
         (either Leaves (eqb op 0x0400) (stays _ refl)
         (either Leaves (eqb op 0x0401) (stays _ refl)
         (either Leaves (eqb op 0x4000) (stays _ refl)
+        (either Leaves (eqb op 0x4102) (stays _ refl)
+        (either Leaves (eqb op 0x4103) (stays _ refl)
         (either Leaves (eqb op 0x4300) (stays _ refl)
         (either Leaves (eqb op 0x4301) (inject-leaves p time)
         (either Leaves (eqb op 0x4302) (record { kept = list-kept _ (cut-follows (lines-of s) (s .poison) (h .entries) p _ (time-small (s .clock) time)) })
-        (stays _ refl))))))))))))
+        (stays _ refl))))))))))))))
 
-    command-kept : (op : ℕ) (p : List ℕ) (time room : ℕ) → Kept (outcome s op p time room .next)
+    command-kept : (op : ℕ) (p : List ℕ) (time : ℕ) (area : List ℕ) (room : ℕ) → Kept (outcome s op p time area room .next)
     unfolding outcome
-    command-kept op p time room = either Leaves (eqb (admission op (length p) room) 0) (run-leaves op p time) (stays _ refl) .kept
+    command-kept op p time area room = either Leaves (eqb (admission op (length p) (length area) room) 0) (run-leaves op p time area) (stays _ refl) .kept
 
     -- after a report
     event-kept : (time log : ℕ) (bytes : List ℕ) → Kept (Device.event-report s time log bytes .next)
@@ -282,7 +284,7 @@ module _ {P : LogState → Type 0} (lasting : Lasting P) where
     -- after any call
     call-kept : (c : Call) → Kept (step s c .next)
     unfolding step
-    call-kept (command opcode payload time room) = command-kept opcode payload time room
+    call-kept (command opcode payload time area room) = command-kept opcode payload time area room
     call-kept (event-report time log bytes) = event-kept time log bytes
     call-kept (media-report time address lines kind) = media-kept time address lines kind
     call-kept (line-test address) = itself-kept
@@ -290,8 +292,8 @@ module _ {P : LogState → Type 0} (lasting : Lasting P) where
     call-kept damage-total = itself-kept
 
     -- of each, what it holds
-    pub command-leaves : (op : ℕ) (p : List ℕ) (time room : ℕ) → Holding P (outcome s op p time room .next)
-    command-leaves op p time room = command-kept op p time room .holds
+    pub command-leaves : (op : ℕ) (p : List ℕ) (time : ℕ) (area : List ℕ) (room : ℕ) → Holding P (outcome s op p time area room .next)
+    command-leaves op p time area room = command-kept op p time area room .holds
 
     pub event-leaves : (time log : ℕ) (bytes : List ℕ) → Holding P (Device.event-report s time log bytes .next)
     event-leaves time log bytes = event-kept time log bytes .holds

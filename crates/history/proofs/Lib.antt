@@ -16,3 +16,4 @@ pub mod SomeBuild
 pub mod Cases
 pub mod Interrupts
 pub mod Reserved
+pub mod Labels

@@ -27,9 +27,9 @@ use Rattle.history.proofs.Ran.{command-steps, event-steps, media-steps,
 pub linked-make : (v p r : ℕ) (e : Device) → Makes (Device.make v p) (made r e) → Ran v p [] e blank-paper
 linked-make v p r e a = make-starts v p (made r e) a
 
-pub linked-command : (d e : Device) (opcode : ℕ) (payload : List ℕ) (time : ℕ) (before after : List ℕ) (r : Done)
-    → Answered (outcome (state-of d) opcode payload time (length before)) d (answered r e) before after → Steps d e (command opcode payload time (length before)) (r .code)
-linked-command d e opcode payload time before after r a = command-steps d opcode payload time before after (answered r e) a
+pub linked-command : (d e : Device) (opcode : ℕ) (payload : List ℕ) (time : ℕ) (area before after : List ℕ) (r : Done)
+    → Answered (outcome (state-of d) opcode payload time area (length before)) d (answered r e) before after → Steps d e (command opcode payload time area (length before)) (r .code)
+linked-command d e opcode payload time area before after r a = command-steps d opcode payload time area before after (answered r e) a
 
 pub linked-event : (d e : Device) (time log : ℕ) (bytes : List ℕ) (r : Event) → EventDone (Device.event-report (state-of d) time log bytes) d (event-told r e)
     → Steps d e (event-report time log bytes) (r .code)
@@ -44,9 +44,9 @@ unfolding step
 linked-line d address r a = record { number = a .code; next = refl }
 
 -- ---- the vector that a C caller is handed is the number that the definitions give (document 02, W-204)
-pub linked-command-vector : (d e : Device) (opcode : ℕ) (payload : List ℕ) (time : ℕ) (before after : List ℕ) (r : Done)
-    → Answered (outcome (state-of d) opcode payload time (length before)) d (answered r e) before after → r .vector ≡ outcome (state-of d) opcode payload time (length before) .vector
-linked-command-vector d e opcode payload time before after r a = sym (carries-numbered (r .vector) .number) ∙ a .vector .number
+pub linked-command-vector : (d e : Device) (opcode : ℕ) (payload : List ℕ) (time : ℕ) (area before after : List ℕ) (r : Done)
+    → Answered (outcome (state-of d) opcode payload time area (length before)) d (answered r e) before after → r .vector ≡ outcome (state-of d) opcode payload time area (length before) .vector
+linked-command-vector d e opcode payload time area before after r a = sym (carries-numbered (r .vector) .number) ∙ a .vector .number
 
 pub linked-event-vector : (d e : Device) (time log : ℕ) (bytes : List ℕ) (r : Event) → EventDone (Device.event-report (state-of d) time log bytes) d (event-told r e)
     → r .vector ≡ Device.event-report (state-of d) time log bytes .vector

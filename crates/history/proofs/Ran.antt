@@ -32,10 +32,10 @@ use Rattle.history.proofs.Demand3.{demand-3}
 use Rattle.history.proofs.Damage.{set-reported, set-kept}
 
 -- ---- what each contract gives
-pub command-steps : (d : Device) (opcode : ℕ) (payload : List ℕ) (time : ℕ) (before after : List ℕ) (r : Answer)
-    → Answered (outcome (state-of d) opcode payload time (length before)) d r before after → Steps d (r .device) (command opcode payload time (length before)) (r .code)
+pub command-steps : (d : Device) (opcode : ℕ) (payload : List ℕ) (time : ℕ) (area before after : List ℕ) (r : Answer)
+    → Answered (outcome (state-of d) opcode payload time area (length before)) d r before after → Steps d (r .device) (command opcode payload time area (length before)) (r .code)
 unfolding step
-command-steps d opcode payload time before after r a = record { number = a .code; next = a .next }
+command-steps d opcode payload time area before after r a = record { number = a .code; next = a .next }
 
 pub event-steps : (d : Device) (time log : ℕ) (bytes : List ℕ) (r : EventAnswer) → EventDone (Device.event-report (state-of d) time log bytes) d r → Steps d (r .device) (event-report time log bytes) (r .code)
 unfolding step

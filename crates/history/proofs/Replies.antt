@@ -91,10 +91,10 @@ plain-reached v p calls =
       };
     }
 
--- THE THEOREM of acceptance: every reply that it gives on Success, to any opcode, is accepted by the reading of that opcode's reply (bytes 20 to 23 of the
--- payload are the length that a Get Log asks for).
-pub replies-accepted : (v p : ℕ) (calls : List Call) (op : ℕ) (payload : List ℕ) (time room : ℕ) → outcome (reached v p calls) op payload time room .code ≡ 0
-    → reading-code op (field payload 20 4) (outcome (reached v p calls) op payload time room .reply) ≡ 0
+-- THE THEOREM of acceptance: every reply that it gives on Success, to any opcode but those of the label area, which the library does not read, is accepted by the reading of that opcode's reply
+-- (bytes 20 to 23 of the payload are the length that a Get Log asks for).
+pub replies-accepted : (v p : ℕ) (calls : List Call) (op : ℕ) → (op ≡ 0x4102 → ⊥) → (op ≡ 0x4103 → ⊥) → (payload : List ℕ) (time : ℕ) (area : List ℕ) (room : ℕ) → outcome (reached v p calls) op payload time area room .code ≡ 0
+    → reading-code op (field payload 20 4) (outcome (reached v p calls) op payload time area room .reply) ≡ 0
 replies-accepted v p calls = accepted (reached v p calls) (plain-reached v p calls)
 
 -- ---- the same of the code
@@ -108,12 +108,12 @@ plain-ran v p cs d w ran =
 pub code-reply-size : (o : Outcome) (d : Device) (a : Answer) (before after : List ℕ) → Answered o d a before after → length (reply-in after a) ≡ a .length
 code-reply-size o d a before after asked = ap length (reply-read o d a before after asked) ∙ sym (asked .size)
 
--- After a run of the code, where a call of `command` is answered Success, the reading of its opcode's reply accepts those bytes; `after` is what the buffer
+-- After a run of the code, where a call of `command`, other than Get LSA and Set LSA, is answered Success, the reading of its opcode's reply accepts those bytes; `after` is what the buffer
 -- then holds.
 pub code-replies-accepted : (v p : ℕ) (cs : List Call) (d : Device) (w : Paper) → Ran v p cs d w
-    → (op : ℕ) (payload : List ℕ) (time : ℕ) (before after : List ℕ) (a : Answer)
-    → Answered (outcome (state-of d) op payload time (length before)) d a before after
+    → (op : ℕ) → (op ≡ 0x4102 → ⊥) → (op ≡ 0x4103 → ⊥) → (payload : List ℕ) (time : ℕ) (area before after : List ℕ) (a : Answer)
+    → Answered (outcome (state-of d) op payload time area (length before)) d a before after
     → a .code ≡ 0 → reading-code op (field payload 20 4) (reply-in after a) ≡ 0
-code-replies-accepted v p cs d w ran op payload time before after a asked success =
-    ap (reading-code op (field payload 20 4)) (reply-read (outcome (state-of d) op payload time (length before)) d a before after asked)
-    ∙ accepted (state-of d) (plain-ran v p cs d w ran) op payload time (length before) (sym (asked .code) ∙ success)
+code-replies-accepted v p cs d w ran op f g payload time area before after a asked success =
+    ap (reading-code op (field payload 20 4)) (reply-read (outcome (state-of d) op payload time area (length before)) d a before after asked)
+    ∙ accepted (state-of d) (plain-ran v p cs d w ran) op f g payload time area (length before) (sym (asked .code) ∙ success)

@@ -18,7 +18,7 @@ use Rattle.poison.specs.declared.line_test.LineTest.{LineTest}
 use Rattle.poison.specs.declared.line_test.LineTest.the-variants.{Unknown}
 use Rattle.mailbox.specs.State.{DeviceState, ValidDevice, lines-of, state-of}
 use Rattle.mailbox.specs.PoisonCommands.{line-of, line-code}
-use Rattle.mailbox.specs.Mailbox.{outcome}
+use Rattle.mailbox.specs.Mailbox.{outcome, area-after}
 use Rattle.mailbox.specs.DeviceCalls as Device
 use Rattle.mailbox.specs.Vector.{numbered}
 use Rattle.mailbox.specs.declared.device.Device.{Device}
@@ -62,8 +62,8 @@ by-definition =
     record {
       make = λ a. record { code = Device.make (a .volatile) (a .persistent) .code; device = device-of (Device.make (a .volatile) (a .persistent) .next) };
       command = λ d a.
-          let o = outcome (state-of d) (a .opcode) (a .payload) (a .time) (length (a .before)) in
-          record { answer = record { code = o .code; length = length (o .reply); vector = numbered (o .vector); device = handed-back (o .code) (o .next) d }; after = splice 0 (o .reply) (a .before) };
+          let o = outcome (state-of d) (a .opcode) (a .payload) (a .time) (a .area) (length (a .before)) in
+          record { answer = record { code = o .code; length = length (o .reply); vector = numbered (o .vector); device = handed-back (o .code) (o .next) d }; after = splice 0 (o .reply) (a .before); left = area-after (a .opcode) (a .payload) (o .code) (a .area) };
       event-report = λ d a.
           let o = Device.event-report (state-of d) (a .time) (a .log) (a .event) in
           record { code = o .code; stored = o .stored; vector = numbered (o .vector); device = handed-back (o .code) (o .next) d };
@@ -101,16 +101,17 @@ some-build-meets = (
         };
     command = λ d _ v a.
         let s = state-of d in
-        let o = outcome s (a .opcode) (a .payload) (a .time) (length (a .before)) in
+        let o = outcome s (a .opcode) (a .payload) (a .time) (a .area) (length (a .before)) in
         record {
           code = refl;
           size = refl;
           vector = carries-numbered (o .vector);
-          next = back-view (o .code) (o .next) d (λ f. refusal s (a .opcode) (a .payload) (a .time) (length (a .before)) f .1);
+          next = back-view (o .code) (o .next) d (λ f. refusal s (a .opcode) (a .payload) (a .time) (a .area) (length (a .before)) f .1);
           bytes = refl;
           refused = back-same (o .code) (o .next) d;
-          valid = back-valid (o .code) (o .next) d (command-leaves valid-lasts s (view-valid d v) (a .opcode) (a .payload) (a .time) (length (a .before))) v;
+          valid = back-valid (o .code) (o .next) d (command-leaves valid-lasts s (view-valid d v) (a .opcode) (a .payload) (a .time) (a .area) (length (a .before))) v;
         };
+    labels = λ d _ v a. refl;
     event-report = λ d _ v a.
         let s = state-of d in
         let o = Device.event-report s (a .time) (a .log) (a .event) in
@@ -145,7 +146,7 @@ abbrev refuser : Build
 refuser =
     record {
       make = λ a. record { code = 2; device = device-of (Device.make 1 0 .next) };
-      command = λ d a. record { answer = record { code = 3; length = 0; vector = None; device = d }; after = a .before };
+      command = λ d a. record { answer = record { code = 3; length = 0; vector = None; device = d }; after = a .before; left = a .area };
       event-report = λ d a. record { code = 2; stored = false; vector = None; device = d };
       media-report = λ d a. record { code = 2; stored = 0; dropped = 0; device = d };
       line-test = λ d a. record { code = 2; answer = Unknown };
@@ -171,7 +172,7 @@ abbrev idle : Build
 idle =
     record {
       make = by-definition .make;
-      command = λ d a. record { answer = record { code = 0; length = 0; vector = None; device = d }; after = a .before };
+      command = λ d a. record { answer = record { code = 0; length = 0; vector = None; device = d }; after = a .before; left = a .area };
       event-report = λ d a. record { code = 0; stored = true; vector = None; device = d };
       media-report = λ d a. record { code = 0; stored = a .lines; dropped = 0; device = d };
       line-test = by-definition .line-test;

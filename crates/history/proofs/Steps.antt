@@ -61,9 +61,9 @@ either d true x y s t = s
 either d false x y s t = t
 
 -- a command that is neither Inject Poison nor Clear Poison leaves the list
-run-leaves : (d : DeviceState) (op : ℕ) (p : List ℕ) (t : ℕ) → eqb op 0x4301 ≡ false → eqb op 0x4302 ≡ false → Same d (run-command d op p t .next)
+run-leaves : (d : DeviceState) (op : ℕ) (p : List ℕ) (t : ℕ) (area : List ℕ) → eqb op 0x4301 ≡ false → eqb op 0x4302 ≡ false → Same d (run-command d op p t area .next)
 unfolding run-command clear-event-records
-run-leaves d op p t i c =
+run-leaves d op p t area i c =
     rw (i, c)
     (either d (eqb op 0x0100) _ _ (same-self d)
     (either d (eqb op 0x0101) _ _ (record { lines = refl; list = refl })
@@ -74,8 +74,10 @@ run-leaves d op p t i c =
     (either d (eqb op 0x0400) _ _ (same-self d)
     (either d (eqb op 0x0401) _ _ (same-self d)
     (either d (eqb op 0x4000) _ _ (same-self d)
+    (either d (eqb op 0x4102) _ _ (same-self d)
+    (either d (eqb op 0x4103) _ _ (same-self d)
     (either d (eqb op 0x4300) _ _ (same-self d)
-    (same-self d)))))))))))
+    (same-self d)))))))))))))
 
 -- ---- Inject Poison and Clear Poison
 inject-keeps : (n : ℕ) (s : PoisonState) (p : Paper) (payload : List ℕ) → Consistent n s p
@@ -121,10 +123,10 @@ module _ (n : ℕ) (d : DeviceState) (p : Paper) (h : Holds n d p) where
   stays = moves-same n d d p (same-self d) h
 
   -- at its opcode, each of the two
-  injects-hold : (op : ℕ) (payload : List ℕ) (time : ℕ) → op ≡ 0x4301
-      → Moves n d (run-command d op payload time .next) (cond (eqb (run-command d op payload time .code) 0) (write-command p op payload) p)
+  injects-hold : (op : ℕ) (payload : List ℕ) (time : ℕ) (area : List ℕ) → op ≡ 0x4301
+      → Moves n d (run-command d op payload time area .next) (cond (eqb (run-command d op payload time area .code) 0) (write-command p op payload) p)
   unfolding run-command
-  injects-hold op payload time e =
+  injects-hold op payload time area e =
       let i = injection-list d payload time in
       rw e
       (record {
@@ -132,10 +134,10 @@ module _ (n : ℕ) (d : DeviceState) (p : Paper) (h : Holds n d p) where
         kept = rw (i .list, i .code, h .lines) (inject-keeps n (d .poison) p payload (h .consistent));
       })
 
-  clears-hold : (op : ℕ) (payload : List ℕ) (time : ℕ) → op ≡ 0x4302
-      → Moves n d (run-command d op payload time .next) (cond (eqb (run-command d op payload time .code) 0) (write-command p op payload) p)
+  clears-hold : (op : ℕ) (payload : List ℕ) (time : ℕ) (area : List ℕ) → op ≡ 0x4302
+      → Moves n d (run-command d op payload time area .next) (cond (eqb (run-command d op payload time area .code) 0) (write-command p op payload) p)
   unfolding run-command
-  clears-hold op payload time e =
+  clears-hold op payload time area e =
       rw e (record { lines = h .lines; kept = rw (h .lines) (clear-keeps n (d .poison) p payload (device-time (d .clock) time) (h .consistent)) })
 
   -- the paper of any other command is as it was, whatever it answers
@@ -143,29 +145,29 @@ module _ (n : ℕ) (d : DeviceState) (p : Paper) (h : Holds n d p) where
   as-it-was true op payload i c = rw (i, c)
   as-it-was false op payload i c = refl
 
-  run-holds : (op : ℕ) (payload : List ℕ) (time : ℕ)
-      → Moves n d (run-command d op payload time .next) (cond (eqb (run-command d op payload time .code) 0) (write-command p op payload) p)
-  run-holds op payload time = inject (eqb op 0x4301) refl
+  run-holds : (op : ℕ) (payload : List ℕ) (time : ℕ) (area : List ℕ)
+      → Moves n d (run-command d op payload time area .next) (cond (eqb (run-command d op payload time area .code) 0) (write-command p op payload) p)
+  run-holds op payload time area = inject (eqb op 0x4301) refl
     where
       inject : (b : Bool) → eqb op 0x4301 ≡ b
-          → Moves n d (run-command d op payload time .next) (cond (eqb (run-command d op payload time .code) 0) (write-command p op payload) p)
-      inject true i = injects-hold op payload time (eqb-true op 0x4301 i)
+          → Moves n d (run-command d op payload time area .next) (cond (eqb (run-command d op payload time area .code) 0) (write-command p op payload) p)
+      inject true i = injects-hold op payload time area (eqb-true op 0x4301 i)
       inject false i = clear (eqb op 0x4302) refl
         where
           clear : (b : Bool) → eqb op 0x4302 ≡ b
-              → Moves n d (run-command d op payload time .next) (cond (eqb (run-command d op payload time .code) 0) (write-command p op payload) p)
-          clear true c = clears-hold op payload time (eqb-true op 0x4302 c)
+              → Moves n d (run-command d op payload time area .next) (cond (eqb (run-command d op payload time area .code) 0) (write-command p op payload) p)
+          clear true c = clears-hold op payload time area (eqb-true op 0x4302 c)
           clear false c =
-              rw (as-it-was (eqb (run-command d op payload time .code) 0) op payload i c)
-              (moves-same n d (run-command d op payload time .next) p (run-leaves d op payload time i c) h)
+              rw (as-it-was (eqb (run-command d op payload time area .code) 0) op payload i c)
+              (moves-same n d (run-command d op payload time area .next) p (run-leaves d op payload time area i c) h)
 
-  command-holds : (op : ℕ) (payload : List ℕ) (time room : ℕ) → Moves n d (outcome d op payload time room .next) (cond (eqb (outcome d op payload time room .code) 0) (write-command p op payload) p)
+  command-holds : (op : ℕ) (payload : List ℕ) (time : ℕ) (area : List ℕ) (room : ℕ) → Moves n d (outcome d op payload time area room .next) (cond (eqb (outcome d op payload time area room .code) 0) (write-command p op payload) p)
   unfolding outcome
-  command-holds op payload time room = admitted (eqb (admission op (length payload) room) 0) refl
+  command-holds op payload time area room = admitted (eqb (admission op (length payload) (length area) room) 0) refl
     where
-      admitted : (b : Bool) → eqb (admission op (length payload) room) 0 ≡ b
-          → Moves n d (outcome d op payload time room .next) (cond (eqb (outcome d op payload time room .code) 0) (write-command p op payload) p)
-      admitted true a = rw a (run-holds op payload time)
+      admitted : (b : Bool) → eqb (admission op (length payload) (length area) room) 0 ≡ b
+          → Moves n d (outcome d op payload time area room .next) (cond (eqb (outcome d op payload time area room .code) 0) (write-command p op payload) p)
+      admitted true a = rw a (run-holds op payload time area)
       admitted false a = rw (a, a) stays
 
   -- a media report
@@ -187,7 +189,7 @@ module _ (n : ℕ) (d : DeviceState) (p : Paper) (h : Holds n d p) where
   -- every call
   call-moves : (c : Call) → Moves n d (step d c .next) (write p c (step d c .code))
   unfolding step write
-  call-moves (command opcode payload time room) = command-holds opcode payload time room
+  call-moves (command opcode payload time area room) = command-holds opcode payload time area room
   call-moves (event-report time log bytes) = moves-same n d (Device.event-report d time log bytes .next) p (event-leaves d time log bytes) h
   call-moves (media-report time address lines kind) = media-holds time address lines kind
   call-moves (line-test address) = stays

@@ -19,7 +19,7 @@ use Rattle.mailbox.specs.declared.device_calls.EventAnswer.{EventAnswer}
 use Rattle.mailbox.specs.declared.device_calls.MediaAnswer.{MediaAnswer}
 use Rattle.mailbox.specs.declared.device_calls.LineAnswer.{LineAnswer}
 use Rattle.mailbox.specs.Commands.{commands, known}
-use Rattle.mailbox.specs.Mailbox.{outcome}
+use Rattle.mailbox.specs.Mailbox.{outcome, area-after}
 use Rattle.mailbox.specs.DeviceCalls as Device
 use Rattle.mailbox.specs.Contracts.{Answered, Makes, EventDone, MediaDone, LineDone, StatusGiven}
 use Rattle.history.specs.Ran.{reply-in}
@@ -42,15 +42,17 @@ pub record MakeAsked : Type 0 where
   pub volatile-u16 : volatile < 2 ^ 16
   pub persistent-u16 : persistent < 2 ^ 16
 
--- command(opcode: u16, payload: &[u8], time: u64, reply: &mut [u8]); `before` is what the reply buffer holds
+-- command(opcode: u16, payload: &[u8], time: u64, area: &mut [u8], reply: &mut [u8]); `before` is what the reply buffer holds
 pub record CommandAsked : Type 0 where
   pub opcode : ℕ
   pub payload : List ℕ
   pub time : ℕ
+  pub area : List ℕ
   pub before : List ℕ
   pub opcode-u16 : opcode < 2 ^ 16
   pub payload-slice : Slice payload
   pub time-u64 : time < 2 ^ 64
+  pub area-slice : Slice area
   pub before-slice : Slice before
 
 -- event_report(time: u64, log: u8, event: &[u8])
@@ -79,10 +81,11 @@ pub record LineAsked : Type 0 where
   pub address-u64 : address < 2 ^ 64
 
 -- ---- builds
--- what a command gives: the answer, and what the lent reply buffer holds after it
+-- what a command gives: the answer, and what the lent reply buffer and the lent label area hold after it
 pub record CommandGiven : Type 0 where
   pub answer : Answer
   pub after : List ℕ
+  pub left : List ℕ
 
 -- a build: any functions in place of those of crate `mailbox`, over the same types
 pub record Build : Type 0 where
@@ -107,7 +110,8 @@ pub data Handed (b : Build) : Device → Type 0 where
 pub record Meets (b : Build) : Type 0 where
   pub make : (a : MakeAsked) → Makes (Device.make (a .volatile) (a .persistent)) (b .make a)
   pub command : (d : Device) → Handed b d → ValidDevice d → (a : CommandAsked)
-      → Answered (outcome (state-of d) (a .opcode) (a .payload) (a .time) (length (a .before))) d (b .command d a .answer) (a .before) (b .command d a .after)
+      → Answered (outcome (state-of d) (a .opcode) (a .payload) (a .time) (a .area) (length (a .before))) d (b .command d a .answer) (a .before) (b .command d a .after)
+  pub labels : (d : Device) → Handed b d → ValidDevice d → (a : CommandAsked) → b .command d a .left ≡ area-after (a .opcode) (a .payload) (b .command d a .answer .code) (a .area)
   pub event-report : (d : Device) → Handed b d → ValidDevice d → (a : EventAsked)
       → EventDone (Device.event-report (state-of d) (a .time) (a .log) (a .event)) d (b .event-report d a)
   pub media-report : (d : Device) → Handed b d → ValidDevice d → (a : MediaAsked)
@@ -125,7 +129,7 @@ pub record RefusesAll (b : Build) : Type 0 where
   pub media-report : (d : Device) → Handed b d → (a : MediaAsked) → b .media-report d a .code ≡ 0 → ⊥
   pub line-test : (d : Device) → Handed b d → (a : LineAsked) → b .line-test d a .code ≡ 0 → ⊥
 
--- less of a fault: it refuses every call of one kind, be it only every command of one of the twelve opcodes
+-- less of a fault: it refuses every call of one kind, be it only every command of one known opcode
 pub data RefusesOne (b : Build) : Type 0 where
   every-make : ((a : MakeAsked) → b .make a .code ≡ 0 → ⊥) → RefusesOne b
   every-command : (opcode : ℕ) → known commands opcode ≡ true
@@ -158,6 +162,9 @@ pub data TellsNothing (b : Build) : Type 0 where
   of-command : (opcode : ℕ) → among telling opcode ≡ true
       → ((d e : Device) → Handed b d → Handed b e → (a : CommandAsked) → a .opcode ≡ opcode → b .command d a .answer .code ≡ 0 → b .command e a .answer .code ≡ 0
       → reply-of (b .command d a) ≡ reply-of (b .command e a)) → TellsNothing b
+  -- Get LSA (document 02, W-206), whatever label area is lent
+  of-labels : ((d : Device) → Handed b d → (a c : CommandAsked) → a .opcode ≡ 0x4102 → c .opcode ≡ 0x4102 → a .payload ≡ c .payload → b .command d a .answer .code ≡ 0 → b .command d c .answer .code ≡ 0
+      → reply-of (b .command d a) ≡ reply-of (b .command d c)) → TellsNothing b
   of-event-report : ((d e : Device) → Handed b d → Handed b e → (a : EventAsked) → b .event-report d a .stored ≡ b .event-report e a .stored) → TellsNothing b
   of-media-report : ((d e : Device) → Handed b d → Handed b e → (a : MediaAsked) → b .media-report d a .stored ≡ b .media-report e a .stored) → TellsNothing b
   of-line-test : ((d e : Device) → Handed b d → Handed b e → (a : LineAsked) → answer-number (b .line-test d a .answer) ≡ answer-number (b .line-test e a .answer)) → TellsNothing b
@@ -178,6 +185,8 @@ changing = 0x0101 ∷ 0x0103 ∷ 0x0301 ∷ 0x4301 ∷ 0x4302 ∷ []
 pub data LeavesOne (b : Build) : Type 0 where
   every-command : (opcode : ℕ) → among changing opcode ≡ true
       → ((d : Device) → Handed b d → (a : CommandAsked) → a .opcode ≡ opcode → state-of (b .command d a .answer .device) ≡ state-of d) → LeavesOne b
+  -- Set LSA (document 02, W-206): the label area that is lent
+  every-label-set : ((d : Device) → Handed b d → (a : CommandAsked) → a .opcode ≡ 0x4103 → b .command d a .left ≡ a .area) → LeavesOne b
   every-event-report : ((d : Device) → Handed b d → (a : EventAsked) → state-of (b .event-report d a .device) ≡ state-of d) → LeavesOne b
   every-media-report : ((d : Device) → Handed b d → (a : MediaAsked) → state-of (b .media-report d a .device) ≡ state-of d) → LeavesOne b
 

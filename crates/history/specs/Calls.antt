@@ -6,9 +6,9 @@ use Rattle.mailbox.specs.State.{DeviceState}
 use Rattle.mailbox.specs.Mailbox.{outcome}
 use Rattle.mailbox.specs.DeviceCalls as Device
 
--- `room` is the size of the reply buffer; times are the caller's
+-- `area` is the label area that the caller lends, of any length and content (document 02, W-206), `room` the size of the reply buffer; times are the caller's
 pub data Call : Type 0 where
-  command : (opcode : ℕ) (payload : List ℕ) (time room : ℕ) → Call
+  command : (opcode : ℕ) (payload : List ℕ) (time : ℕ) (area : List ℕ) (room : ℕ) → Call
   event-report : (time log : ℕ) (bytes : List ℕ) → Call
   media-report : (time address lines kind : ℕ) → Call
   line-test : (address : ℕ) → Call
@@ -22,7 +22,7 @@ pub record Stepped : Type 0 where
 
 -- "Each call gets the device that the last one left"
 unfoldable pub step : DeviceState → Call → Stepped
-step d (command opcode payload time room) = record { code = outcome d opcode payload time room .code; next = outcome d opcode payload time room .next }
+step d (command opcode payload time area room) = record { code = outcome d opcode payload time area room .code; next = outcome d opcode payload time area room .next }
 step d (event-report time log bytes) = record { code = Device.event-report d time log bytes .code; next = Device.event-report d time log bytes .next }
 step d (media-report time address lines kind) =
     record { code = Device.media-report d time address lines kind .code; next = Device.media-report d time address lines kind .next }

@@ -11,6 +11,7 @@ use Rattle.events.specs.Log.{log-at, handle-of}
 use Rattle.events.specs.Get.{reply-bytes}
 use Rattle.events.specs.Clear.{clear-payload}
 use Rattle.events.specs.Drain.{more-bit, record-count}
+use Rattle.labels.specs.Labels.{zero-area}
 use Rattle.mailbox.specs.State.{DeviceState, lines-of, with-logs, with-poison}
 use Rattle.mailbox.specs.Outcome.{Outcome}
 use Rattle.mailbox.specs.Mailbox.{outcome}
@@ -18,12 +19,12 @@ use Rattle.mailbox.specs.DeviceCalls as Device
 use Rattle.history.specs.Calls.{Call, command, event-report, media-report, line-test, step, after}
 use Rattle.history.specs.Drain.{read, then-clear}
 
--- a device of one unit; a reply buffer of 2,048 bytes
+-- a device of one unit; a label area of zeros, and a reply buffer of 2,048 bytes
 abbrev pub new-unit : DeviceState
 new-unit = Device.make 1 0 .next
 
 abbrev pub send : ℕ → List ℕ → Call
-send opcode payload = command opcode payload 0 2048
+send opcode payload = command opcode payload 0 zero-area 2048
 
 abbrev pub number-of : Bool → ℕ
 number-of b = cond b 1 0
@@ -135,9 +136,9 @@ cases =
     ((0 ∷ 0 ∷ 0 ∷ []) ++ ((0 ∷ 1 ∷ 2 ∷ []) ++ (0 ∷ 1 ∷ 2 ∷ [])))
     -- P10 range of 0 lines at the device's end: no records (number, length of the reply, its record count)
     ∷ case
-    (outcome full 0x4300 (le 8 (lines-of full * 64) ++ le 8 0) 0 2048 .code
-    ∷ length (outcome full 0x4300 (le 8 (lines-of full * 64) ++ le 8 0) 0 2048 .reply)
-    ∷ field (outcome full 0x4300 (le 8 (lines-of full * 64) ++ le 8 0) 0 2048 .reply) 10 2
+    (outcome full 0x4300 (le 8 (lines-of full * 64) ++ le 8 0) 0 zero-area 2048 .code
+    ∷ length (outcome full 0x4300 (le 8 (lines-of full * 64) ++ le 8 0) 0 zero-area 2048 .reply)
+    ∷ field (outcome full 0x4300 (le 8 (lines-of full * 64) ++ le 8 0) 0 zero-area 2048 .reply) 10 2
     ∷ [])
     (0 ∷ 32 ∷ 0 ∷ [])
     ∷ []
@@ -145,10 +146,10 @@ cases =
 -- ---- W-201 (document 02)
 -- log 0 of a new device, read, after n events to it; and read, cleared of what that gave, after n events
 abbrev pub read-after : ℕ → Outcome
-read-after n = read (after new-unit (events n)) 0 0 2048
+read-after n = read (after new-unit (events n)) 0 0 zero-area 2048
 
 abbrev pub drained-after : ℕ → Outcome
-drained-after n = then-clear (after new-unit (events n)) 0 0 2048 0 2048
+drained-after n = then-clear (after new-unit (events n)) 0 0 zero-area 2048 0 zero-area 2048
 
 -- what a host sees of a read: the number, the flags, the overflow count, the record count and the length of the reply
 abbrev pub seen : Outcome → List ℕ
@@ -166,7 +167,7 @@ drain-cases =
     ∷ case (seen (read-after 8)) (0 ∷ 0 ∷ 0 ∷ 8 ∷ 1056 ∷ [])
     ∷ case (seen (read-after 9)) (0 ∷ 1 ∷ 1 ∷ 8 ∷ 1056 ∷ [])
     -- read, clear what was read, read again: nothing is held, the overflow is forgotten; the next event has the next handle
-    ∷ case (drained-after 9 .code ∷ seen (read (drained-after 9 .next) 0 0 2048)) (0 ∷ 0 ∷ 0 ∷ 0 ∷ 0 ∷ 32 ∷ [])
+    ∷ case (drained-after 9 .code ∷ seen (read (drained-after 9 .next) 0 0 zero-area 2048)) (0 ∷ 0 ∷ 0 ∷ 0 ∷ 0 ∷ 32 ∷ [])
     ∷ case (handles-of (after (drained-after 9 .next) (events 1))) (9 ∷ [])
     -- the rule over the number carried: with eight held More is set below eight carried, and clear from there on
     ∷ case (more-at 1 ∷ more-at 3 ∷ more-at 7 ∷ more-at 8 ∷ more-at 15 ∷ []) (1 ∷ 1 ∷ 1 ∷ 0 ∷ 0 ∷ [])
@@ -191,12 +192,12 @@ unfoldable pub example : List (List ℕ)
 example =
     (Device.make 1 0 .code ∷ [])
     ∷ (Device.media-report new-unit 0 128 3 2 .code ∷ Device.media-report new-unit 0 128 3 2 .stored ∷ Device.media-report new-unit 0 128 3 2 .dropped ∷ [])
-    ∷ (outcome reported 0x4302 (le 8 192 ++ replicate 64 0) 0 2048 .code ∷ length (outcome reported 0x4302 (le 8 192 ++ replicate 64 0) 0 2048 .reply) ∷ [])
+    ∷ (outcome reported 0x4302 (le 8 192 ++ replicate 64 0) 0 zero-area 2048 .code ∷ length (outcome reported 0x4302 (le 8 192 ++ replicate 64 0) 0 zero-area 2048 .reply) ∷ [])
     ∷ (Device.line-test cleared 192 .code ∷ Device.line-test cleared 192 .number ∷ Device.line-test cleared 192 .kind ∷ [])
     ∷ (Device.line-test cleared 128 .code ∷ Device.line-test cleared 128 .number ∷ Device.line-test cleared 128 .kind ∷ [])
-    ∷ (outcome cleared 0x4300 (le 8 0 ++ le 8 16) 0 2048 .code
-    ∷ length (outcome cleared 0x4300 (le 8 0 ++ le 8 16) 0 2048 .reply)
-    ∷ outcome cleared 0x4300 (le 8 0 ++ le 8 16) 0 2048 .reply)
+    ∷ (outcome cleared 0x4300 (le 8 0 ++ le 8 16) 0 zero-area 2048 .code
+    ∷ length (outcome cleared 0x4300 (le 8 0 ++ le 8 16) 0 zero-area 2048 .reply)
+    ∷ outcome cleared 0x4300 (le 8 0 ++ le 8 16) 0 zero-area 2048 .reply)
     ∷ []
 
 -- what the document prints: "ten zero bytes, 02 00, twenty zero bytes, two records"

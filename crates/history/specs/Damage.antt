@@ -12,7 +12,7 @@ use Rattle.mailbox.specs.PoisonCommands.{line-of}
 
 -- whether a call, answered with a number, reports line k damaged: an accepted media report over it, or an Inject Poison of it answered Success
 abbrev pub reports : Call → ℕ → ℕ → Bool
-reports (command opcode payload time room) code k = eqb code 0 && (eqb opcode 0x4301 && eqb k (line-of (field payload 0 8)))
+reports (command opcode payload time area room) code k = eqb code 0 && (eqb opcode 0x4301 && eqb k (line-of (field payload 0 8)))
 reports (event-report time log bytes) code k = false
 reports (media-report time address lines kind) code k = eqb code 0 && in-run (run (line-of address) lines) k
 reports (line-test address) code k = false
@@ -21,7 +21,7 @@ reports damage-total code k = false
 
 -- whether it clears line k: a Clear Poison of it answered Success
 abbrev pub clears : Call → ℕ → ℕ → Bool
-clears (command opcode payload time room) code k = eqb code 0 && (eqb opcode 0x4302 && eqb k (line-of (field payload 0 8)))
+clears (command opcode payload time area room) code k = eqb code 0 && (eqb opcode 0x4302 && eqb k (line-of (field payload 0 8)))
 clears (event-report time log bytes) code k = false
 clears (media-report time address lines kind) code k = false
 clears (line-test address) code k = false

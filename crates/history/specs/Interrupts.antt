@@ -4,6 +4,7 @@ use mathlib.Core.List.{List, [], _∷_, _++_, map}
 use lib.ListN.{length, getD, replicate}
 use Rattle.wire.specs.Wire.{le}
 use Rattle.events.specs.Log.{log-at}
+use Rattle.labels.specs.Labels.{zero-area}
 use Rattle.mailbox.specs.State.{DeviceState}
 use Rattle.mailbox.specs.Mailbox.{outcome}
 use Rattle.mailbox.specs.DeviceCalls as Device
@@ -31,8 +32,8 @@ event-vector d n k = Device.event-report (after d (replicate n (event-report 0 k
 -- number and vector of an injection at a line; how many records log 0 then holds, its overflow count, and what the line test says of the line
 abbrev pub injection : DeviceState → (line : ℕ) → List ℕ
 injection d line =
-    outcome d 0x4301 (le 8 (line * 64)) 0 2048 .code
-    ∷ outcome d 0x4301 (le 8 (line * 64)) 0 2048 .vector
+    outcome d 0x4301 (le 8 (line * 64)) 0 zero-area 2048 .code
+    ∷ outcome d 0x4301 (le 8 (line * 64)) 0 zero-area 2048 .vector
     ∷ length (handles-of (after d (inject line ∷ [])))
     ∷ log-at (after d (inject line ∷ []) .logs) 0 .overflow-count
     ∷ told (after d (inject line ∷ [])) line
@@ -64,7 +65,7 @@ interrupt-cases =
     ∷ case (oldest (after enabled-unit (inject 1 ∷ []))) (replicate 16 0 ++ (128 ∷ replicate 3 0) ++ (1 ∷ replicate 27 0) ++ (64 ∷ replicate 79 0))
     -- the same at address 0abcde40h, as the second event, 5 after the clock was set to 7: handle 2, time 12
     ∷ case
-    (getD (log-at (after enabled-unit (events 1 ++ (send 0x0301 (le 8 7) ∷ command 0x4301 (le 8 0xabcde40) 5 2048 ∷ [])) .logs) 0 .held) 1 [])
+    (getD (log-at (after enabled-unit (events 1 ++ (send 0x0301 (le 8 7) ∷ command 0x4301 (le 8 0xabcde40) 5 zero-area 2048 ∷ [])) .logs) 0 .held) 1 [])
     (replicate 16 0 ++ (128 ∷ replicate 3 0) ++ (2 ∷ replicate 3 0) ++ (12 ∷ replicate 23 0) ++ (0x40 ∷ 0xde ∷ 0xbc ∷ 0x0a ∷ replicate 76 0))
     -- the same line again: Success, none, still one record
     ∷ case (injection (after enabled-unit (inject 1 ∷ [])) 1) (0 ∷ 0 ∷ 1 ∷ 0 ∷ 0 ∷ 1 ∷ 3 ∷ [])
@@ -78,5 +79,5 @@ interrupt-cases =
     ∷ case (injection (after enabled-unit (events 8)) 1) (0 ∷ 0 ∷ 8 ∷ 1 ∷ 0 ∷ 1 ∷ 3 ∷ [])
     -- refused: 256 entries and an uncovered line, 0010h; unaligned, 0002h. No event, none
     ∷ case (injection (policy-set full (replicate 5 1)) 5001) (0x10 ∷ 0 ∷ 0 ∷ 0 ∷ 0 ∷ 0 ∷ 0 ∷ [])
-    ∷ case (outcome enabled-unit 0x4301 (le 8 65) 0 2048 .code ∷ outcome enabled-unit 0x4301 (le 8 65) 0 2048 .vector ∷ handles-of (after enabled-unit (send 0x4301 (le 8 65) ∷ []))) (2 ∷ 0 ∷ [])
+    ∷ case (outcome enabled-unit 0x4301 (le 8 65) 0 zero-area 2048 .code ∷ outcome enabled-unit 0x4301 (le 8 65) 0 zero-area 2048 .vector ∷ handles-of (after enabled-unit (send 0x4301 (le 8 65) ∷ []))) (2 ∷ 0 ∷ [])
     ∷ []

@@ -10,3 +10,4 @@ pub mod Builds
 pub mod Cases
 pub mod Interrupts
 pub mod Reserved
+pub mod Labels

@@ -19,7 +19,7 @@ write-command p opcode payload =
 
 -- "Three calls change it, and only on 0000h"
 unfoldable pub write : Paper → Call → ℕ → Paper
-write p (command opcode payload time room) code = cond (eqb code 0) (write-command p opcode payload) p
+write p (command opcode payload time area room) code = cond (eqb code 0) (write-command p opcode payload) p
 write p (event-report time log bytes) code = p
 write p (media-report time address lines kind) code = cond (eqb code 0) (paper-report p (line-of address) lines) p
 write p (line-test address) code = p

@@ -11,7 +11,7 @@ use Rattle.history.specs.Calls.{Call, command, event-report, media-repor
 
 -- a call on a device gives nothing: no reply and no vector; not stored and no vector; 0 lines; Unknown, number 2, with type 0. Event status and damage total are never refused.
 abbrev pub GivesNothing : DeviceState → Call → Type 0
-GivesNothing d (command opcode payload time room) = (outcome d opcode payload time room .reply ≡ []) × (outcome d opcode payload time room .vector ≡ no-vector)
+GivesNothing d (command opcode payload time area room) = (outcome d opcode payload time area room .reply ≡ []) × (outcome d opcode payload time area room .vector ≡ no-vector)
 GivesNothing d (event-report time log bytes) = (Device.event-report d time log bytes .stored ≡ false) × (Device.event-report d time log bytes .vector ≡ no-vector)
 GivesNothing d (media-report time address lines kind) = (Device.media-report d time address lines kind .stored ≡ 0) × (Device.media-report d time address lines kind .dropped ≡ 0)
 GivesNothing d (line-test address) = (Device.line-test d address .number ≡ 2) × (Device.line-test d address .kind ≡ 0)

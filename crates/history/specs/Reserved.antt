@@ -2,6 +2,7 @@
 use Prim.Native.Nat.{ℕ, _+_}
 use mathlib.Core.List.{List, [], _∷_, _++_, map}
 use lib.ListN.{set, replicate}
+use Rattle.labels.specs.Labels.{zero-area}
 use Rattle.mailbox.specs.State.{DeviceState}
 use Rattle.mailbox.specs.Mailbox.{outcome}
 use Rattle.history.specs.Calls.{after}
@@ -37,7 +38,7 @@ overflown = after new-unit (events 9)
 
 -- the number of a Clear Event Records, and the handles that log 0 holds after it
 abbrev pub clear-number : DeviceState → List ℕ → ℕ
-clear-number d p = outcome d 0x0101 p 0 2048 .code
+clear-number d p = outcome d 0x0101 p 0 zero-area 2048 .code
 
 abbrev pub handles-after : DeviceState → List ℕ → List ℕ
 handles-after d p = handles-of (after d (send 0x0101 p ∷ []))
@@ -48,7 +49,7 @@ abbrev pub byte-at : (n place byte : ℕ) → List ℕ
 byte-at n place byte = set (replicate n 0) place byte
 
 abbrev pub set-number : List ℕ → ℕ
-set-number p = outcome new-unit 0x0103 p 0 2048 .code
+set-number p = outcome new-unit 0x0103 p 0 zero-area 2048 .code
 
 abbrev pub modes-at : (n place : ℕ) → List ℕ
 modes-at n place = map (λ (mode : ℕ). set-number (byte-at n place mode)) (0 ∷ 1 ∷ 2 ∷ 3 ∷ [])

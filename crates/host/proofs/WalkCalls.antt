@@ -1,5 +1,5 @@
 -- What the calls of the walk ensure, by their cases; and what a caller may conclude from the contract of `walk` (document 02, W-202). Assumes nothing.
-use mathlib.Core.Path.{_≡_, sym, ap, _∙_}
+use mathlib.Core.Path.{_≡_, sym, ap, ap₂, _∙_}
 use mathlib.Core.List.{List}
 use Prim.Native.Nat.{ℕ, _+_, _*_, _/_, _%_, _^_, _≤_, _<_}
 use native.Mathlib.Decide.{ℕ-discrete}
@@ -22,19 +22,20 @@ use Rattle.mailbox.specs.Contracts.{Answered}
 use Rattle.mailbox.proofs.Laws.{range-ends}
 use Rattle.wire.specs.declared.done.Done.{Done}
 use Rattle.wire.specs.Done.{Written, written, refused, Writes}
+use Rattle.labels.specs.Labels.{zero-area}
 use Rattle.host.specs.Walking.{walk-of, range-answer, walk-on, walk-answer, Askable, RangeAsked, Wrote}
 use Rattle.host_requests.specs.Requests.{get-poison-list, opcode, payload}
 use Rattle.host.proofs.WalkReplies.{answer-refused, answer-taken}
 
 -- ---- a request
 -- what asking ensures, from the device's answer to a payload that is the request's
-pub asked : (d : Device) (address n : ℕ) {bytes before after : List ℕ} {r : Answer} → bytes ≡ payload (get-poison-list address n)
-    → Answered (outcome (state-of d) 0x4300 bytes 0 (length before)) d r before after
+pub asked : (d : Device) (address n : ℕ) {bytes area before after : List ℕ} {r : Answer} → bytes ≡ payload (get-poison-list address n) → area ≡ zero-area
+    → Answered (outcome (state-of d) 0x4300 bytes 0 area (length before)) d r before after
     → Writes (range-answer d address n (length before)) (record { code = r .code; length = r .length }) before after
 unfolding opcode
-asked d address n {bytes} {before} {after} {r} e w =
-    let f : outcome (state-of d) 0x4300 bytes 0 (length before) ≡ outcome (state-of d) 0x4300 (payload (get-poison-list address n)) 0 (length before)
-    = ap (λ (l : List ℕ). outcome (state-of d) 0x4300 l 0 (length before)) e in
+asked d address n {bytes} {area} {before} {after} {r} e z w =
+    let f : outcome (state-of d) 0x4300 bytes 0 area (length before) ≡ outcome (state-of d) 0x4300 (payload (get-poison-list address n)) 0 zero-area (length before)
+    = ap₂ (λ (l k : List ℕ). outcome (state-of d) 0x4300 l 0 k (length before)) e z in
     record {
       code = w .code ∙ ap (λ (x : Outcome). x .code) f;
       size = w .size ∙ ap (λ (x : Outcome). length (x .reply)) f;

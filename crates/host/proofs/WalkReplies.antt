@@ -7,7 +7,7 @@ use Prim.Native.Nat.{ℕ, _+_, _*_, _/_, _%_, _^_, _≤_, _<_}
 use native.Mathlib.Omega.{arith}
 use lib.Dec.{ltb, eqb}
 use lib.Bits.{bitAnd, and-mask}
-use lib.ListN.{length, take, getD, length-append, length-take}
+use lib.ListN.{length, take, getD, length-append, length-take, length-replicate}
 use borrow.Author.Tests.{ltb-false, eq-eqb, ne-eqb}
 use Rattle.wire.specs.Wire.{le, part, splice}
 use Rattle.wire.proofs.Laws.{length-splice, joined, copied}
@@ -29,6 +29,7 @@ use Rattle.host_requests.specs.Requests as Q
 use Rattle.host_requests.specs.Meant.{meant, list-of}
 use Rattle.host_requests.proofs.Laws.{list-long, list-builds, taken}
 use Rattle.host.specs.Walk.{halves, first-half}
+use Rattle.labels.specs.Labels.{label-size, zero-area}
 use Rattle.host.specs.Walking.{range-answer}
 
 -- ---- the step of the walk, as the code finds it
@@ -68,7 +69,7 @@ module _ (d : Device) (address n room : ℕ) (ha : address < 2 ^ 64) (hn : n < 2
 
   answer-meant : range-answer d address n room ≡ record { code = list-of (state-of d) address n .code; bytes = list-of (state-of d) address n .bytes }
   unfolding countable meant
-  answer-meant = ap (λ (o : Outcome). record { code = o .code; bytes = o .reply }) (taken (Q.get-poison-list address n) refl (omega arith, omega arith) .outcome (state-of d) 0 room hr)
+  answer-meant = ap (λ (o : Outcome). record { code = o .code; bytes = o .reply }) (taken (Q.get-poison-list address n) refl (omega arith, omega arith) .outcome (state-of d) 0 zero-area (length-replicate {A = ℕ} label-size 0) room hr)
 
   -- the number of the checks of the range, where it is not 0
   pub answer-refused : (code ≡ 0 → ⊥) → range-answer d address n room ≡ refused code

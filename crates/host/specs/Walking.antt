@@ -4,6 +4,7 @@ use mathlib.Core.List.{List}
 use Prim.Native.Nat.{ℕ, _+_, _-_, _*_, _≤_}
 use lib.Dec.{eqb, leb}
 use lib.ListN.{length}
+use Rattle.labels.specs.Labels.{zero-area}
 use Rattle.wire.specs.Returns.{success, small-buffer, need}
 use Rattle.wire.specs.Wire.{part, splice}
 use Rattle.poison.specs.State as P
@@ -25,10 +26,11 @@ held d = P.entries-of (d .poison)
 abbrev pub walk-of : Device → ℕ → ℕ → List P.Entry
 walk-of d a n = walk poison-records (held d) a n
 
--- ---- the request for a range, Get Poison List, taken by the device: its number and its reply, for a reply buffer of `room` bytes
+-- ---- the request for a range, Get Poison List, taken by the device: its number and its reply, for a reply buffer of `room` bytes. The device wants a label area with every command (document 02,
+-- W-206), and this one does not see it: the walk lends one of zeros
 abbrev pub range-answer : Device → ℕ → ℕ → ℕ → Written
 range-answer d address n room =
-    let o = outcome (state-of d) (opcode (get-poison-list address n)) (payload (get-poison-list address n)) 0 room in
+    let o = outcome (state-of d) (opcode (get-poison-list address n)) (payload (get-poison-list address n)) 0 zero-area room in
     record { code = o .code; bytes = o .reply }
 
 -- ---- the walk over the n lines from an address on, for a room of `room` bytes: the device's number where it refuses the range; 0100h exactly where the records need

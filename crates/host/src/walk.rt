@@ -27,14 +27,16 @@ pub fn first_half(reply: &[u8], lines: u64) -> u64
     lines / 2
 }
 
-// Asks a device for the records of some lines from an address on, by Get Poison List. The command changes nothing: the device of the answer is not kept.
+// Asks a device for the records of some lines from an address on, by Get Poison List. The command changes nothing: the device of the answer is not kept. A device wants a label area with
+// every command (document 02, W-206), and this one does not look into it: it is lent one of zeros made here, so that who walks needs none.
 fn ask(device: Device, address: u64, lines: u64, reply: &mut [u8]) -> Done
     requires { ⌜ ValidDevice device ⌝ }
     ensures { λ r. ⌜ Writes (range-answer device address lines (length (now (reply .entry)))) r (now (reply .entry)) (now (reply .exit)) ⌝ }
 {
     let mut payload = [0u8; 16];
     request::get_poison_list(address, lines, &mut payload);
-    let answer = device.command(0x4300, &payload, 0, reply);
+    let mut area = [0u8; 4096];
+    let answer = device.command(0x4300, &payload, 0, &mut area, reply);
     let code = answer.code;
     let length = answer.length;
     Done { code, length }

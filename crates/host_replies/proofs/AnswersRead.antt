@@ -7,7 +7,7 @@ use Prim.Native.Nat.{ℕ, _+_, _^_, _<_}
 use native.Mathlib.Omega.{arith}
 use lib.Dec.{eqb, leb}
 use lib.ListN.{length, getD}
-use borrow.Author.Tests.{leb-true, eqb-false}
+use borrow.Author.Tests.{leb-true, eqb-false, ne-eqb}
 use Rattle.wire.specs.Wire.{le, number, part, field, same}
 use Rattle.wire.specs.Returns.{need}
 use Rattle.wire.proofs.Laws.{length-le, length-part, either}
@@ -55,7 +55,7 @@ time-holds d time =
     time-taken (le 8 (device-time (d .clock) time)) (length-le 8 (device-time (d .clock) time))
     ∙ ap (λ (x : ℕ). record { code = 0; time = x }) (number-read 8 (device-time (d .clock) time) (time-small d time))
 
--- one log, the Command Effects Log, of 48 bytes
+-- one log, the Command Effects Log, of 56 bytes
 logs-writable : writing-verdict SupportedLogs 1 (effects-log-id ++ le 4 effects-log-size) 28 .code ≡ 0
 unfolding writing-verdict header-size record-size first-reserved reserved effects-log-id le
 logs-writable = refl
@@ -79,7 +79,7 @@ identity-holds volatile persistent small = identity-reads (Told.identity-told vo
 
 -- ---- a reply given with number 0 is the one that its definition has
 module _ (p : List ℕ) where
-  effects-long : length effects-log ≡ 48
+  effects-long : length effects-log ≡ 56
   unfolding effects-log commands le
   effects-long = refl
 
@@ -116,11 +116,11 @@ module _ (p : List ℕ) where
       go false q z = absurd (eqb-false code 0 q z)
 
 -- ---- commands answered with Success
-module _ (d : DeviceState) (plain : Plain d) (p : List ℕ) (time room : ℕ) where
+module _ (d : DeviceState) (plain : Plain d) (p : List ℕ) (time : ℕ) (area : List ℕ) (room : ℕ) where
   -- what holds of the reply of the opcode's command holds of the answer's
-  answered : (op : ℕ) (P : List ℕ → Type 0) → (run-command d op p time .code ≡ 0 → P (run-command d op p time .reply)) → outcome d op p time room .code ≡ 0
-      → P (outcome d op p time room .reply)
-  answered op P f z = let r = accepted-runs d op p time room z in rw r (f (sym (ap (λ (o : Outcome). o .code) r) ∙ z))
+  answered : (op : ℕ) (P : List ℕ → Type 0) → (run-command d op p time area .code ≡ 0 → P (run-command d op p time area .reply)) → outcome d op p time area room .code ≡ 0
+      → P (outcome d op p time area room .reply)
+  answered op P f z = let r = accepted-runs d op p time area room z in rw r (f (sym (ap (λ (o : Outcome). o .code) r) ∙ z))
 
   events-given : get-event-records (d .logs) p .code ≡ 0 → EventsTold d p (get-event-records (d .logs) p .bytes)
   unfolding get-event-records
@@ -138,31 +138,31 @@ module _ (d : DeviceState) (plain : Plain d) (p : List ℕ) (time room : ℕ) wh
   range-given z = rw (list-given p (lines-of d) (d .poison) z) (list-holds (d .poison) (plain .list) (line-of (field p 0 8)) (field p 8 8))
 
   -- THE THEOREM of the fields, a command each: on Success the reply tells what the device's definitions say.
-  pub events-told : outcome d 0x0100 p time room .code ≡ 0 → EventsTold d p (outcome d 0x0100 p time room .reply)
+  pub events-told : outcome d 0x0100 p time area room .code ≡ 0 → EventsTold d p (outcome d 0x0100 p time area room .reply)
   unfolding run-command
   events-told = answered 0x0100 (EventsTold d p) events-given
 
-  pub policy-told : outcome d 0x0102 p time room .code ≡ 0 → PolicyTold d (outcome d 0x0102 p time room .reply)
+  pub policy-told : outcome d 0x0102 p time area room .code ≡ 0 → PolicyTold d (outcome d 0x0102 p time area room .reply)
   unfolding run-command get-policy
   policy-told = answered 0x0102 (PolicyTold d) (λ z. policy-taken (d .policy) (plain .policy))
 
-  pub time-told : outcome d 0x0300 p time room .code ≡ 0 → TimeTold d time (outcome d 0x0300 p time room .reply)
+  pub time-told : outcome d 0x0300 p time area room .code ≡ 0 → TimeTold d time (outcome d 0x0300 p time area room .reply)
   unfolding run-command
   time-told = answered 0x0300 (TimeTold d time) (λ z. time-holds d time)
 
-  pub logs-told : outcome d 0x0400 p time room .code ≡ 0 → LogsTold (outcome d 0x0400 p time room .reply)
+  pub logs-told : outcome d 0x0400 p time area room .code ≡ 0 → LogsTold (outcome d 0x0400 p time area room .reply)
   unfolding run-command
   logs-told = answered 0x0400 LogsTold (λ z. logs-given)
 
-  pub log-told : outcome d 0x0401 p time room .code ≡ 0 → LogTold p (outcome d 0x0401 p time room .reply)
+  pub log-told : outcome d 0x0401 p time area room .code ≡ 0 → LogTold p (outcome d 0x0401 p time area room .reply)
   unfolding run-command
   log-told = answered 0x0401 (LogTold p) part-given
 
-  pub identity-told : outcome d 0x4000 p time room .code ≡ 0 → IdentityTold d (outcome d 0x4000 p time room .reply)
+  pub identity-told : outcome d 0x4000 p time area room .code ≡ 0 → IdentityTold d (outcome d 0x4000 p time area room .reply)
   unfolding run-command
   identity-told = answered 0x4000 (IdentityTold d) (λ z. identity-holds (d .volatile) (d .persistent) (plain .units))
 
-  pub list-told : outcome d 0x4300 p time room .code ≡ 0 → ListTold d p (outcome d 0x4300 p time room .reply)
+  pub list-told : outcome d 0x4300 p time area room .code ≡ 0 → ListTold d p (outcome d 0x4300 p time area room .reply)
   unfolding run-command
   list-told = answered 0x4300 (ListTold d p) range-given
 
@@ -184,10 +184,11 @@ module _ (d : DeviceState) (plain : Plain d) (p : List ℕ) (time room : ℕ) wh
   unfolding inject
   injection-silent = either (Accepts read-nothing) (inject-adds (lines-of d) (d .poison) p) (record { accepts = λ z. nothing-taken [] refl }) (silent _ _)
 
-  run-accepts : (op : ℕ) → Accepts (reading-code op (log-length p)) (run-command d op p time)
+  run-accepts : (op : ℕ) → eqb op 0x4102 ≡ false → eqb op 0x4103 ≡ false → Accepts (reading-code op (log-length p)) (run-command d op p time area)
   unfolding reading-code run-command clear-event-records get-policy
-  run-accepts op =
-      choice (eqb op 0x0100) (record { accepts = λ z. ap (λ (r : EventsRead). r .code) (events-given z .fields) })
+  run-accepts op i j =
+      rw (i, j)
+      (choice (eqb op 0x0100) (record { accepts = λ z. ap (λ (r : EventsRead). r .code) (events-given z .fields) })
       (choice (eqb op 0x0101) (silent _ _)
       (choice (eqb op 0x0102) (record { accepts = λ z. ap (λ (r : PolicyRead). r .code) (policy-taken (d .policy) (plain .policy)) })
       (choice (eqb op 0x0103) (silent _ _)
@@ -199,10 +200,11 @@ module _ (d : DeviceState) (plain : Plain d) (p : List ℕ) (time room : ℕ) wh
       (choice (eqb op 0x4300) (record { accepts = λ z. ap (λ (r : ListRead). r .code) (range-given z .fields) })
       (choice (eqb op 0x4301) injection-silent
       (choice (eqb op 0x4302) (silent _ _)
-      (record { accepts = λ z. absurd (omega arith) }))))))))))))
+      (record { accepts = λ z. absurd (omega arith) })))))))))))))
 
--- THE THEOREM of acceptance: every reply that the device gives on Success, to any opcode, is accepted by the reading of that opcode's reply.
-pub accepted : (d : DeviceState) → Plain d → (op : ℕ) (p : List ℕ) (time room : ℕ) → outcome d op p time room .code ≡ 0
-    → reading-code op (field p 20 4) (outcome d op p time room .reply) ≡ 0
-accepted d plain op p time room =
-    answered d plain p time room op (λ (bs : List ℕ). reading-code op (log-length p) bs ≡ 0) (run-accepts d plain p time room op .accepts)
+-- THE THEOREM of acceptance: every reply that the device gives on Success, to any opcode but those of the label area (the library reads the replies of document 01's twelve commands), is accepted by
+-- the reading of that opcode's reply.
+pub accepted : (d : DeviceState) → Plain d → (op : ℕ) → (op ≡ 0x4102 → ⊥) → (op ≡ 0x4103 → ⊥) → (p : List ℕ) (time : ℕ) (area : List ℕ) (room : ℕ) → outcome d op p time area room .code ≡ 0
+    → reading-code op (field p 20 4) (outcome d op p time area room .reply) ≡ 0
+accepted d plain op f g p time area room =
+    answered d plain p time area room op (λ (bs : List ℕ). reading-code op (log-length p) bs ≡ 0) (run-accepts d plain p time area room op (ne-eqb op 0x4102 f) (ne-eqb op 0x4103 g) .accepts)

@@ -13,6 +13,7 @@ use Rattle.poison.specs.State.{Entry, PoisonState, shape, capacity}
 use Rattle.poison.specs.Range.{sharing, records-bytes}
 use Rattle.events.specs.Log.{LogState, log-at}
 use Rattle.events.specs.Get.{flags, replied, joined}
+use Rattle.labels.specs.Labels.{label-size}
 use Rattle.mailbox.specs.Numbers.{event-records, poison-records}
 use Rattle.mailbox.specs.State.{DeviceState}
 use Rattle.mailbox.specs.Identity.{version}
@@ -93,7 +94,7 @@ identity-told volatile persistent =
       «warning_log_size» = 8;
       «failure_log_size» = 8;
       «fatal_log_size» = 8;
-      «label_size» = 0;
+      «label_size» = label-size;
       «poison_list_size» = 256;
       «inject_limit» = 0;
       capabilities = 0;

@@ -19,6 +19,7 @@ use Rattle.events.specs.Get as Get
 use Rattle.events.specs.Clear as Clear
 use Rattle.events.specs.Clear.{ClearedState, all-flag, other-flags, count-field, handles-at, clear-payload, clear-code, clear-log-code, clear-size, clear-log, clear-taken}
 use Rattle.events.proofs.Laws.{payload-length, payload-log, payload-flags, payload-count, payload-reserved, payload-handles}
+use Rattle.labels.specs.Labels.{label-size}
 use Rattle.mailbox.specs.Numbers.{mailbox-size, event-records}
 use Rattle.mailbox.specs.State.{DeviceState, lines-of, with-policy, with-logs, with-poison}
 use Rattle.mailbox.specs.Policy.{known-modes, set-policy, set-interrupt-policy}
@@ -45,13 +46,14 @@ use Rattle.host_requests.specs.Requests as Q
 use Rattle.host_requests.specs.Meant.{meant, FieldsRead, Widths, Taken, cleared, clearing, clearing-code}
 
 -- a request whose payload passes the checks and which the command takes as it is meant
-taking : (q : Request) → ((room : ℕ) → mailbox-size ≤ room → admission (opcode q) (length (payload q)) room ≡ 0) → FieldsRead q (payload q)
-    → ((d : DeviceState) (time : ℕ) → run-command d (opcode q) (payload q) time ≡ meant q d time) → Taken q
+taking : (q : Request) → ((room : ℕ) → mailbox-size ≤ room → admission (opcode q) (length (payload q)) label-size room ≡ 0) → FieldsRead q (payload q)
+    → ((d : DeviceState) (time : ℕ) (area : List ℕ) → run-command d (opcode q) (payload q) time area ≡ meant q d time) → Taken q
 taking q a f r =
     record {
       admitted = a;
       fields = f;
-      outcome = λ d time room h. admitted-runs d (opcode q) (payload q) time room (a room h) ∙ r d time;
+      outcome = λ d time area sized room h.
+          admitted-runs d (opcode q) (payload q) time area room (ap (λ (n : ℕ). admission (opcode q) (length (payload q)) n room) sized ∙ a room h) ∙ r d time area;
     }
 
 -- ---- Get Event Records
@@ -66,31 +68,31 @@ get-taken : (log : ℕ) → log < 256 → Taken (Q.get-event-records log)
 unfolding opcode payload admission commands run-command Events.get-event-records Get.get-event-records Get.get-code meant le
 get-taken log small =
     let e : log % 256 ≡ log = omega arith in
-    taking (Q.get-event-records log) (λ room h. rw (le-leb mailbox-size room h)) e (λ d time. rw e (got-meant (ltb log 5) (Get.reply-bytes event-records (log-at (d .logs) log)) d))
+    taking (Q.get-event-records log) (λ room h. rw (le-leb mailbox-size room h)) e (λ d time area. rw e (got-meant (ltb log 5) (Get.reply-bytes event-records (log-at (d .logs) log)) d))
 
 -- ---- requests with no payload
 plain-policy : Taken Q.get-event-interrupt-policy
 unfolding opcode payload admission commands run-command meant
-plain-policy = taking Q.get-event-interrupt-policy (λ room h. rw (le-leb mailbox-size room h)) refl (λ d time. refl)
+plain-policy = taking Q.get-event-interrupt-policy (λ room h. rw (le-leb mailbox-size room h)) refl (λ d time area. refl)
 
 plain-time : Taken Q.get-timestamp
 unfolding opcode payload admission commands run-command meant
-plain-time = taking Q.get-timestamp (λ room h. rw (le-leb mailbox-size room h)) refl (λ d time. refl)
+plain-time = taking Q.get-timestamp (λ room h. rw (le-leb mailbox-size room h)) refl (λ d time area. refl)
 
 plain-logs : Taken Q.get-supported-logs
 unfolding opcode payload admission commands run-command meant
-plain-logs = taking Q.get-supported-logs (λ room h. rw (le-leb mailbox-size room h)) refl (λ d time. refl)
+plain-logs = taking Q.get-supported-logs (λ room h. rw (le-leb mailbox-size room h)) refl (λ d time area. refl)
 
 plain-identify : Taken Q.identify
 unfolding opcode payload admission commands run-command meant
-plain-identify = taking Q.identify (λ room h. rw (le-leb mailbox-size room h)) refl (λ d time. refl)
+plain-identify = taking Q.identify (λ room h. rw (le-leb mailbox-size room h)) refl (λ d time area. refl)
 
 -- ---- one number
 set-time-taken : (value : ℕ) → value < 256 ^ 8 → Taken (Q.set-timestamp value)
 unfolding opcode payload admission commands run-command meant Clock.set-timestamp
 set-time-taken value small =
     taking (Q.set-timestamp value) (λ room h. rw (length-le 8 value, le-leb mailbox-size room h)) (number-read 8 value small)
-    (λ d time. rw (number-read 8 value small))
+    (λ d time area. rw (number-read 8 value small))
 
 -- ---- settings
 set-meant : (b : Bool) (new : List ℕ) (d : DeviceState)
@@ -103,9 +105,9 @@ settings-taken : (settings : List ℕ) → countable (Q.set-event-interrupt-poli
 unfolding opcode payload admission commands run-command set-interrupt-policy meant countable
 settings-taken settings c =
     taking (Q.set-event-interrupt-policy settings) (λ room h. go room h (ℕ-discrete (length settings) 4)) refl
-    (λ d time. set-meant (known-modes settings) (set-policy (d .policy) settings) d)
+    (λ d time area. set-meant (known-modes settings) (set-policy (d .policy) settings) d)
   where
-    go : (room : ℕ) → mailbox-size ≤ room → Dec (length settings ≡ 4) → admission 0x0103 (length settings) room ≡ 0
+    go : (room : ℕ) → mailbox-size ≤ room → Dec (length settings ≡ 4) → admission 0x0103 (length settings) label-size room ≡ 0
     go room h (yes e) = rw (e, le-leb mailbox-size room h)
     go room h (no f) = let e : length settings ≡ 5 = eqb-true _ _ (rw (ne-eqb (length settings) 4 f) at c) in rw (e, le-leb mailbox-size room h)
 
@@ -123,7 +125,7 @@ unfolding opcode payload admission commands run-command meant Logs.get-log
 log-taken id offset size e ho hs =
     let f = log-fields id offset size e ho hs in
     let l : length (id ++ le 4 offset ++ le 4 size) ≡ 24 = simp (length-append, length-le) (omega arith) in
-    taking (Q.get-log id offset size) (λ room h. rw (l, le-leb mailbox-size room h)) f (λ d time. rw (f .0, f .1, f .2))
+    taking (Q.get-log id offset size) (λ room h. rw (l, le-leb mailbox-size room h)) f (λ d time area. rw (f .0, f .1, f .2))
 
 -- ---- the poison commands
 list-fields : (address lines : ℕ) → address < 256 ^ 8 → lines < 256 ^ 8 → FieldsRead (Q.get-poison-list address lines) (payload (Q.get-poison-list address lines))
@@ -136,7 +138,7 @@ unfolding opcode payload admission commands run-command meant Poison.get-poison-
 list-taken address lines ha hl =
     let f = list-fields address lines ha hl in
     let l : length (le 8 address ++ le 8 lines) ≡ 16 = simp (length-append, length-le) in
-    taking (Q.get-poison-list address lines) (λ room h. rw (l, le-leb mailbox-size room h)) f (λ d time. rw (f .0, f .1))
+    taking (Q.get-poison-list address lines) (λ room h. rw (l, le-leb mailbox-size room h)) f (λ d time area. rw (f .0, f .1))
 
 -- the tests of the definition and of what is meant are the same: an injection, where x is the list with the line's entry added, v says that the line is covered, w that
 -- there is room for an entry and z that the line's checks pass, and e reports the event
@@ -155,7 +157,7 @@ inject-taken address ha =
     let f = number-read 8 address ha in
     let k = Poison.line-of address in
     taking (Q.inject-poison address) (λ room h. rw (length-le 8 address, le-leb mailbox-size room h)) f
-    (λ d time. rw f
+    (λ d time area. rw f
     (inject-meant d (Poison.line-code (lines-of d) address) (with-entry (d .poison) k) (λ (y : DeviceState). event-report y time 0 (Poison.injection-record address))
     (covers (d .poison .entries) k) (ltb (length (d .poison .entries)) slots) (eqb (Poison.line-code (lines-of d) address) 0)))
 
@@ -176,7 +178,7 @@ poison-taken address bs ha e =
     let f = clear-fields address bs ha e in
     let l : length (le 8 address ++ bs) ≡ 72 = simp (length-append, length-le) (omega arith) in
     taking (Q.clear-poison address bs) (λ room h. rw (l, le-leb mailbox-size room h)) f
-    (λ d time. rw (f .0) (clear-meant d (Poison.line-code (lines-of d) address) (Poison.line-of address) (device-time (d .clock) time) _ refl))
+    (λ d time area. rw (f .0) (clear-meant d (Poison.line-code (lines-of d) address) (Poison.line-of address) (device-time (d .clock) time) _ refl))
 
 -- ---- Clear Event Records
 module _ (log flags : ℕ) (hs : List ℕ) (hl : log < 256) (hf : flags < 256) (small : (i : ℕ) → i < length hs → getD hs i 0 < 65536) (few : length hs ≤ 255) where
@@ -213,9 +215,9 @@ module _ (log flags : ℕ) (hs : List ℕ) (hl : log < 256) (hf : flags < 256) (
   by-number d true false c n e = rw e
   by-number d false b c n e = rw e
 
-  events-meant : (d : DeviceState) (time : ℕ) → run-command d 0x0101 built time ≡ meant (Q.clear-event-records log flags hs) d time
+  events-meant : (d : DeviceState) (time : ℕ) (area : List ℕ) → run-command d 0x0101 built time area ≡ meant (Q.clear-event-records log flags hs) d time
   unfolding run-command meant Events.clear-event-records Clear.clear-event-records
-  events-meant d time =
+  events-meant d time area =
       rw (payload-log log flags hs hl, log-meant (log-at (d .logs) log))
       (by-number d (eqb (other-flags flags) 0) (ltb log 5) (clearing (log-at (d .logs) log) (all-flag flags) hs) (clear-code built) checks-meant)
 

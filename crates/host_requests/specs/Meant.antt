@@ -14,6 +14,7 @@ use Rattle.events.specs.Log.{LogState, log-at}
 use Rattle.events.specs.Get.{reply-bytes}
 use Rattle.events.specs.Clear.{ClearedState, all-flag, other-flags, mismatch, mismatch-code, without, clear-taken}
 use Rattle.events.specs.Clear.{log-field, count-field, handles-at}
+use Rattle.labels.specs.Labels.{label-size}
 use Rattle.mailbox.specs.Numbers.{mailbox-size, event-records}
 use Rattle.mailbox.specs.State.{DeviceState, lines-of, with-clock, with-policy, with-logs, with-poison}
 use Rattle.mailbox.specs.Outcome.{Reply, Outcome, replied, no-reply, reads, changes, refused}
@@ -131,8 +132,9 @@ Widths (get-poison-list address lines) = (address < 256 ^ 8) × (lines < 256 ^ 8
 Widths (inject-poison address) = address < 256 ^ 8
 Widths (clear-poison address bytes) = address < 256 ^ 8
 
--- ---- the theorem's statement: the payload passes the checks before a command's own, its fields are those given, and the outcome on any device is the one meant
+-- ---- the theorem's statement: the payload passes the checks before a command's own, its fields are those given, and the outcome on any device is the one meant, whatever label area of 4,096
+-- bytes is lent (none of the twelve sees it)
 pub record Taken (q : Request) : Type 0 where
-  pub admitted : (room : ℕ) → mailbox-size ≤ room → admission (opcode q) (length (payload q)) room ≡ success
+  pub admitted : (room : ℕ) → mailbox-size ≤ room → admission (opcode q) (length (payload q)) label-size room ≡ success
   pub fields : FieldsRead q (payload q)
-  pub outcome : (d : DeviceState) (time room : ℕ) → mailbox-size ≤ room → outcome d (opcode q) (payload q) time room ≡ meant q d time
+  pub outcome : (d : DeviceState) (time : ℕ) (area : List ℕ) → length area ≡ label-size → (room : ℕ) → mailbox-size ≤ room → outcome d (opcode q) (payload q) time area room ≡ meant q d time

@@ -3,6 +3,7 @@
 use mathlib.Core.Path.{_≡_, refl, sym, ap, ap₂, _∙_, subst}
 use mathlib.Core.Bool.{Bool, true, false, cond}
 use mathlib.Core.List.{List, []}
+use mathlib.Core.Logic.{_⊎_, inl, inr}
 use Prim.Native.Nat.{ℕ, _+_, _-_, _≤_, _<_}
 use native.Mathlib.Omega.{arith}
 use native.Mathlib.Decide.{decLe, ℕ-discrete}
@@ -17,7 +18,20 @@ use Rattle.wire.proofs.Splice.{nothing-written, part-written, part-before, part
 use Rattle.labels.specs.Labels.{label-size, label-offset, labels-asked, labels-reserved, label-data, get-labels, set-code, set-labels, SameRange, Apart}
 use Rattle.labels.proofs.Cases.{get-long, get-past, get-read, data-length, set-accepted}
 
--- a Get LSA that is answered Success gives the bytes of its range
+-- a Get LSA of at most `most` bytes that ends in the area gives the bytes of its range; every other is 0002h
+module _ (most : ℕ) (p area : List ℕ) where
+  pub get-inside : labels-asked p ≤ most → label-offset p + labels-asked p ≤ label-size → get-labels most p area ≡ written (part (label-offset p) (labels-asked p) area)
+  get-inside short h = get-read most p area short (le-leb _ _ h)
+
+  pub get-outside : (most < labels-asked p) ⊎ (label-size < label-offset p + labels-asked p) → get-labels most p area ≡ refused invalid-input
+  get-outside (inl l) = get-long most p area l
+  get-outside (inr l) = go (decLe (labels-asked p) most)
+    where
+      go : Dec (labels-asked p ≤ most) → get-labels most p area ≡ refused invalid-input
+      go (yes short) = get-past most p area short (lt-leb (label-offset p + labels-asked p) label-size l)
+      go (no f) = get-long most p area (omega (arith, f))
+
+-- so one that is answered Success gives those bytes
 pub get-accepted : (most : ℕ) (p area : List ℕ) → get-labels most p area .code ≡ success → get-labels most p area ≡ written (part (label-offset p) (labels-asked p) area)
 get-accepted most p area z = fits (decLe (labels-asked p) most)
   where
@@ -25,12 +39,12 @@ get-accepted most p area z = fits (decLe (labels-asked p) most)
     refusal e = let two : invalid-input ≡ success = sym (ap (λ (w : Written). w .code) e) ∙ z in absurd (omega (arith, two))
 
     ends : labels-asked p ≤ most → Dec (label-offset p + labels-asked p ≤ label-size) → get-labels most p area ≡ written (part (label-offset p) (labels-asked p) area)
-    ends short (yes h) = get-read most p area short (le-leb _ _ h)
-    ends short (no f) = refusal (get-past most p area short (lt-leb (label-offset p + labels-asked p) label-size (omega (arith, f))))
+    ends short (yes h) = get-inside most p area short h
+    ends short (no f) = refusal (get-outside most p area (inr (omega (arith, f))))
 
     fits : Dec (labels-asked p ≤ most) → get-labels most p area ≡ written (part (label-offset p) (labels-asked p) area)
     fits (yes short) = ends short (decLe (label-offset p + labels-asked p) label-size)
-    fits (no f) = refusal (get-long most p area (omega (arith, f)))
+    fits (no f) = refusal (get-outside most p area (inl (omega (arith, f))))
 
 -- and one that is refused gives none
 record Silent (w : Written) : Type 0 where

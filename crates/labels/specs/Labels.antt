@@ -4,7 +4,7 @@ use mathlib.Core.Path.{_≡_}
 use mathlib.Core.Bool.{Bool, cond}
 use mathlib.Core.List.{List}
 use lib.Dec.{eqb, leb}
-use lib.ListN.{length, drop}
+use lib.ListN.{length, drop, replicate}
 use Rattle.wire.specs.Wire.{field, part, splice}
 use Rattle.wire.specs.Returns.{success, invalid-input, need}
 use Rattle.wire.specs.Done.{Written, written, refused}
@@ -12,6 +12,10 @@ use Rattle.wire.specs.Done.{Written, written, refused}
 -- "4,096 bytes of label area"
 abbrev pub label-size : ℕ
 label-size = 4096
+
+-- an area of zeros
+abbrev pub zero-area : List ℕ
+zero-area = replicate label-size 0
 
 -- ---- the fields of a payload
 -- "(offset 4, length 4)" and "(offset 4, four reserved, data)"

@@ -5,26 +5,27 @@ use Prim.Native.Nat.{ℕ, _≤_}
 use native.Mathlib.Decide.{ℕ-discrete}
 use borrow.Author.Tests.{eq-eqb, ne-eqb, le-leb}
 use lib.ListN.{length}
+use Rattle.labels.specs.Labels.{label-size}
 use Rattle.mailbox.specs.Numbers.{mailbox-size}
 use Rattle.mailbox.specs.State.{DeviceState}
 use Rattle.mailbox.specs.Commands.{commands, admission}
 use Rattle.mailbox.specs.Mailbox.{run-command, outcome}
 use Rattle.mailbox.proofs.AdmissionLaws.{admission-at}
 
-module _ (d : DeviceState) (op : ℕ) (p : List ℕ) (time room : ℕ) where
-  pub admitted-runs : admission op (length p) room ≡ 0 → outcome d op p time room ≡ run-command d op p time
+module _ (d : DeviceState) (op : ℕ) (p : List ℕ) (time : ℕ) (area : List ℕ) (room : ℕ) where
+  pub admitted-runs : admission op (length p) (length area) room ≡ 0 → outcome d op p time area room ≡ run-command d op p time area
   unfolding outcome
-  admitted-runs z = rw (eq-eqb (admission op (length p) room) 0 z)
+  admitted-runs z = rw (eq-eqb (admission op (length p) (length area) room) 0 z)
 
-  pub accepted-runs : outcome d op p time room .code ≡ 0 → outcome d op p time room ≡ run-command d op p time
+  pub accepted-runs : outcome d op p time area room .code ≡ 0 → outcome d op p time area room ≡ run-command d op p time area
   unfolding outcome
-  accepted-runs e = go (ℕ-discrete (admission op (length p) room) 0)
+  accepted-runs e = go (ℕ-discrete (admission op (length p) (length area) room) 0)
     where
-      go : Dec (admission op (length p) room ≡ 0) → outcome d op p time room ≡ run-command d op p time
+      go : Dec (admission op (length p) (length area) room ≡ 0) → outcome d op p time area room ≡ run-command d op p time area
       go (yes z) = admitted-runs z
-      go (no f) = absurd (f (rw (ne-eqb (admission op (length p) room) 0 f) at e))
+      go (no f) = absurd (f (rw (ne-eqb (admission op (length p) (length area) room) 0 f) at e))
 
 -- Clear Event Records with a payload of 6 to 2,048 bytes and room for every reply is let through to its own checks
-pub clear-events-admitted : (n room : ℕ) → mailbox-size ≤ room → 6 ≤ n → n ≤ mailbox-size → admission 0x0101 n room ≡ 0
+pub clear-events-admitted : (n room : ℕ) → mailbox-size ≤ room → 6 ≤ n → n ≤ mailbox-size → admission 0x0101 n label-size room ≡ 0
 unfolding commands
 clear-events-admitted n room fits least most = sym (admission-at 0x0101 n room 0x0101 fits most refl) ∙ rw (le-leb 6 n least)

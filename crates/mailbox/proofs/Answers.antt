@@ -1,10 +1,11 @@
 -- What `command` ensures of its answer (`Answered`), by the kind of command: refused before its own checks, one that reads, one that changes a part of the
 -- device; and the device that follows a change is valid. Assumes nothing.
-use mathlib.Core.Path.{_≡_, refl, sym, ap, subst}
+use mathlib.Core.Path.{_≡_, refl, sym, ap, _∙_, subst}
 use mathlib.Core.List.{List}
 use Prim.Native.Nat.{ℕ, _+_, _*_}
 use lib.ListN.{length}
 use borrow.Author.Tests.{ne-eqb}
+use Rattle.labels.specs.Labels.{label-size}
 use Rattle.wire.specs.Wire.{splice}
 use Rattle.poison.specs.State as P
 use Rattle.poison.specs.declared.list.PoisonList.{PoisonList}
@@ -37,20 +38,29 @@ pub change-answer : {d e : Device} {s : DeviceState} {code number : ℕ} {before
 unfolding splice
 change-answer v c s f = record { code = c; size = refl; vector = carries-none; next = s; bytes = refl; refused = f; valid = v }
 
-module _ (d : Device) (op : ℕ) (p : List ℕ) (t room : ℕ) where
-  -- refused by the checks before a command's own
-  pub refusal-answer : (code : ℕ) {before : List ℕ} → ValidDevice d → code ≡ admission op (length p) room → (code ≡ 0 → ⊥)
-      → Answered (outcome (state-of d) op p t room) d (record { code = code; length = 0; vector = None; device = d }) before before
-  unfolding outcome splice
-  refusal-answer code v e h =
-      equal-outcome {o′ = refused code (state-of d)} (simp (sym e, ne-eqb _ _ h))
-      (record { code = refl; size = refl; vector = carries-none; next = refl; bytes = refl; refused = λ f. refl; valid = v })
+-- refused by the checks before a command's own
+pub refusal-answer : (d : Device) (op : ℕ) (p : List ℕ) (t : ℕ) (area : List ℕ) (room code : ℕ) {before : List ℕ} → ValidDevice d → code ≡ admission op (length p) (length area) room
+    → (code ≡ 0 → ⊥) → Answered (outcome (state-of d) op p t area room) d (record { code = code; length = 0; vector = None; device = d }) before before
+unfolding outcome splice
+refusal-answer d op p t area room code v e h =
+    equal-outcome {o′ = refused code (state-of d)} (simp (sym e, ne-eqb _ _ h))
+    (record { code = refl; size = refl; vector = carries-none; next = refl; bytes = refl; refused = λ f. refl; valid = v })
 
-  -- admitted: the command of the opcode
-  pub answer-at : (o : ℕ) {r : Answer} {before after : List ℕ} → admission op (length p) room ≡ 0 → op ≡ o → Answered (run-command (state-of d) o p t) d r before after
-      → Answered (outcome (state-of d) op p t room) d r before after
+-- where the area has 4,096 bytes: refused by the others of those checks; or admitted, the command of the opcode
+module _ (d : Device) (op : ℕ) (p : List ℕ) (t : ℕ) (area : List ℕ) (sized : length area ≡ label-size) (room : ℕ) where
+  size-is : admission op (length p) label-size room ≡ admission op (length p) (length area) room
+  size-is = ap (λ (n : ℕ). admission op (length p) n room) (sym sized)
+
+  pub refused-before : (code : ℕ) {before : List ℕ} → ValidDevice d → code ≡ admission op (length p) label-size room → (code ≡ 0 → ⊥)
+      → Answered (outcome (state-of d) op p t area room) d (record { code = code; length = 0; vector = None; device = d }) before before
+  refused-before code v e h = refusal-answer d op p t area room code v (e ∙ size-is) h
+
+  pub answer-at : (o : ℕ) {r : Answer} {before after : List ℕ} → admission op (length p) label-size room ≡ 0 → op ≡ o → Answered (run-command (state-of d) o p t area) d r before after
+      → Answered (outcome (state-of d) op p t area room) d r before after
   unfolding outcome
-  answer-at o e h a = equal-outcome (simp e (ap (λ (x : ℕ). run-command (state-of d) x p t) h)) a
+  answer-at o e h a =
+      let admitted : admission op (length p) (length area) room ≡ 0 = sym size-is ∙ e in
+      equal-outcome (simp admitted (ap (λ (x : ℕ). run-command (state-of d) x p t area) h)) a
 
 -- the device with the logs, or the list, that it has
 pub same-logs : (d : Device) {ls : List Log} → ls ≡ d .logs

@@ -1,6 +1,6 @@
 -- Demand 1: what is refused gives nothing and changes nothing. Shown of the definitions that the contracts cite, for every command and for every device-side
 -- call that has a number. (The contracts' own field `refused` says further that the code hands back the very same value.) Assumes nothing.
-use mathlib.Core.Path.{_≡_, refl, ap, _∙_}
+use mathlib.Core.Path.{_≡_, refl, sym, ap, _∙_}
 use mathlib.Core.Bool.{false, _&&_}
 use mathlib.Core.List.{List, []}
 use Prim.Native.Nat.{ℕ, _+_}
@@ -36,8 +36,11 @@ use Rattle.mailbox.specs.EffectsLog.{effects-log-size, effects-log-id, l
 use Rattle.mailbox.specs.Identity.{identify}
 use Rattle.mailbox.specs.EventCommands.{get-event-records, clear-event-records}
 use Rattle.mailbox.specs.PoisonCommands.{ListChange, line-of, line-code, range-code, get-poison-list, inject-poison, inject-adds, clear-poison}
-use Rattle.mailbox.specs.Mailbox.{run-command, inject, outcome, changes-policy, changes-list}
+use Rattle.labels.specs.Labels.{get-labels}
+use Rattle.labels.proofs.Laws.{get-refused}
+use Rattle.mailbox.specs.Mailbox.{area-after, run-command, inject, outcome, changes-policy, changes-list}
 use Rattle.mailbox.specs.DeviceCalls.{new-device, MakeOutcome, make, event-report, media-code, MediaOutcome, media-report, LineOutcome, line-test}
+use Rattle.mailbox.proofs.AreaAnswers.{refusal-leaves}
 use Rattle.mailbox.proofs.PolicyLaws.{refused-set-changes-nothing}
 use Rattle.mailbox.proofs.VectorLaws.{raised-later}
 
@@ -71,6 +74,9 @@ log-silent p =
     (either Silent (leb (log-offset p + log-length p) effects-log-size) (success-silent _) (refusal-silent _))
     (refusal-silent _))
     (refusal-silent _)
+
+labels-silent : (p area : List ℕ) → Silent (get-labels mailbox-size p area)
+labels-silent p area = record { silent = get-refused mailbox-size p area }
 
 list-silent : (lines : ℕ) (s : PoisonState) (p : List ℕ) → Silent (get-poison-list lines s p)
 unfolding get-poison-list
@@ -111,9 +117,9 @@ inject-refuses d p time =
     either (Refuses d) (inject-adds (lines-of d) (d .poison) p) (record { refuses = λ h. absurd (h refl) }) (keeps-refuses d (inject-keeps _ _ p))
 
 -- ---- the commands
-commands-refuse : (d : DeviceState) (op : ℕ) (p : List ℕ) (time : ℕ) → Refuses d (run-command d op p time)
+commands-refuse : (d : DeviceState) (op : ℕ) (p : List ℕ) (time : ℕ) (area : List ℕ) → Refuses d (run-command d op p time area)
 unfolding run-command get-policy get-timestamp get-supported-logs identify
-commands-refuse d op p time =
+commands-refuse d op p time area =
     either (Refuses d) (eqb op 0x0100) (silent-refuses d (events-silent _ p))
     (either (Refuses d) (eqb op 0x0101) (events-refuse d p)
     (either (Refuses d) (eqb op 0x0102) (silent-refuses d (success-silent _))
@@ -123,17 +129,19 @@ commands-refuse d op p time =
     (either (Refuses d) (eqb op 0x0400) (silent-refuses d (success-silent _))
     (either (Refuses d) (eqb op 0x0401) (silent-refuses d (log-silent p))
     (either (Refuses d) (eqb op 0x4000) (silent-refuses d (success-silent _))
+    (either (Refuses d) (eqb op 0x4102) (silent-refuses d (labels-silent p area))
+    (either (Refuses d) (eqb op 0x4103) (record { refuses = λ h. (refl, refl, refl) })
     (either (Refuses d) (eqb op 0x4300) (silent-refuses d (list-silent _ _ p))
     (either (Refuses d) (eqb op 0x4301) (inject-refuses d p time)
     (either (Refuses d) (eqb op 0x4302) (keeps-refuses d (clear-keeps _ _ p _))
-    (record { refuses = λ h. (refl, refl, refl) }))))))))))))
+    (record { refuses = λ h. (refl, refl, refl) }))))))))))))))
 
 -- Demand 1 for the commands: a command whose return number is not 0 has an empty reply, leaves the device's state as it was and carries no vector, whatever the opcode, the
--- payload, the time and the size of the reply buffer.
-pub refusal : (d : DeviceState) (op : ℕ) (p : List ℕ) (time room : ℕ) → (outcome d op p time room .code ≡ 0 → ⊥)
-    → (outcome d op p time room .reply ≡ []) × (outcome d op p time room .next ≡ d) × (outcome d op p time room .vector ≡ no-vector)
+-- payload, the time, the label area and the size of the reply buffer.
+pub refusal : (d : DeviceState) (op : ℕ) (p : List ℕ) (time : ℕ) (area : List ℕ) (room : ℕ) → (outcome d op p time area room .code ≡ 0 → ⊥)
+    → (outcome d op p time area room .reply ≡ []) × (outcome d op p time area room .next ≡ d) × (outcome d op p time area room .vector ≡ no-vector)
 unfolding outcome
-refusal d op p time room = either (Refuses d) (eqb (admission op (length p) room) 0) (commands-refuse d op p time) (record { refuses = λ h. (refl, refl, refl) }) .refuses
+refusal d op p time area room = either (Refuses d) (eqb (admission op (length p) (length area) room) 0) (commands-refuse d op p time area) (record { refuses = λ h. (refl, refl, refl) }) .refuses
 
 -- Demand 1 for event report: a refused report answers not stored, leaves the state as it was and carries no vector.
 pub event-refusal : (d : DeviceState) (time log : ℕ) (bytes : List ℕ) → (event-report d time log bytes .code ≡ 0 → ⊥)
@@ -172,15 +180,16 @@ unfolding make
 make-refusal volatile persistent =
     either OneUnit (leb 1 (volatile + persistent) && leb (volatile + persistent) most-units) (record { one-unit = λ h. absurd (h refl) }) (record { one-unit = λ h. (refl, refl) }) .one-unit
 
--- Demand 1 of the code: a command refused by `Device::command` has length 0, hands back the very same device, alters no byte of the reply buffer and carries no vector.
-pub refusal-unaltered : (d : Device) (op : ℕ) (p : List ℕ) (time : ℕ) (r : Answer) (before after : List ℕ)
-    → Answered (outcome (state-of d) op p time (length before)) d r before after → (r .code ≡ 0 → ⊥)
-    → (r .length ≡ 0) × (r .device ≡ d) × (after ≡ before) × (r .vector ≡ None)
+-- Demand 1 of the code: a command refused by `Device::command` has length 0, hands back the very same device, alters no byte of the reply buffer and none of the label area, and carries no
+-- vector.
+pub refusal-unaltered : (d : Device) (op : ℕ) (p : List ℕ) (time : ℕ) (r : Answer) (before after area left : List ℕ)
+    → Answered (outcome (state-of d) op p time area (length before)) d r before after → left ≡ area-after op p (r .code) area → (r .code ≡ 0 → ⊥)
+    → (r .length ≡ 0) × (r .device ≡ d) × (after ≡ before) × (left ≡ area) × (r .vector ≡ None)
 unfolding splice
-refusal-unaltered d op p time r before after a h =
-    let refuses = refusal (state-of d) op p time (length before) (λ z. h (a .code ∙ z)) in
-    let none : outcome (state-of d) op p time (length before) .reply ≡ [] = refuses .0 in
-    (a .size ∙ ap length none, a .refused h, a .bytes ∙ ap (λ (bs : List ℕ). splice 0 bs before) none, a .vector .none (refuses .2))
+refusal-unaltered d op p time r before after area left a l h =
+    let refuses = refusal (state-of d) op p time area (length before) (λ z. h (a .code ∙ z)) in
+    let none : outcome (state-of d) op p time area (length before) .reply ≡ [] = refuses .0 in
+    (a .size ∙ ap length none, a .refused h, a .bytes ∙ ap (λ (bs : List ℕ). splice 0 bs before) none, l ∙ sym (refusal-leaves op p (r .code) area h), a .vector .none (refuses .2))
 
 -- Demand 1 of the code: an event report refused by `Device::event_report` answers not stored, hands back the very same device and carries no vector.
 pub event-unaltered : (d : Device) (time log : ℕ) (bytes : List ℕ) (r : EventAnswer) → EventDone (event-report (state-of d) time log bytes) d r

@@ -13,7 +13,7 @@ abbrev pub version-bytes : List ℕ
 version-bytes = 66 ∷ 87 ∷ 70 ∷ 87 ∷ 32 ∷ 86 ∷ 69 ∷ 82 ∷ 83 ∷ 73 ∷ 79 ∷ 78 ∷ 32 ∷ 48 ∷ 0 ∷ 0 ∷ []
 
 abbrev pub limit-bytes : List ℕ
-limit-bytes = 0 ∷ 0 ∷ 0 ∷ 0 ∷ 0 ∷ 0 ∷ 0 ∷ 0 ∷ 8 ∷ 0 ∷ 8 ∷ 0 ∷ 8 ∷ 0 ∷ 8 ∷ 0 ∷ 0 ∷ 0 ∷ 0 ∷ 0 ∷ 0 ∷ 1 ∷ 0 ∷ 0 ∷ 0 ∷ 0 ∷ 0 ∷ 8 ∷ 0 ∷ []
+limit-bytes = 0 ∷ 0 ∷ 0 ∷ 0 ∷ 0 ∷ 0 ∷ 0 ∷ 0 ∷ 8 ∷ 0 ∷ 8 ∷ 0 ∷ 8 ∷ 0 ∷ 8 ∷ 0 ∷ 0 ∷ 16 ∷ 0 ∷ 0 ∷ 0 ∷ 1 ∷ 0 ∷ 0 ∷ 0 ∷ 0 ∷ 0 ∷ 8 ∷ 0 ∷ []
 
 pub identity-written : (v p : ℕ) (xs : List ℕ) → 69 ≤ length xs
     → splice 40 (part 0 29 limit-bytes) (splice 32 (le 8 p) (splice 24 (le 8 v) (splice 16 (le 8 (v + p)) (splice 0 (part 0 16 version-bytes) xs))))

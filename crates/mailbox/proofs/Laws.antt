@@ -18,6 +18,9 @@ pub use Rattle.mailbox.proofs.DeviceAnswers.{media-zero}
 -- The answer of a function over parts, at the parts of a valid device, is that device's answer, with the part that follows in its place. For the two of one log: where the log was taken
 -- from, and is put back to, the place that the payload, or the log's number, names; for Inject Poison, log 0.
 pub use Rattle.mailbox.proofs.PartAnswers.{list-parts-answered, inject-parts-answered, log-parts-answered, settings-parts-answered, event-parts-done, media-parts-done}
+-- Where the label area decides nothing about a command, it has 4,096 bytes and the opcode is neither Get LSA nor Set LSA (also of an area of just that size); a command other than Set LSA leaves the
+-- area, and so does a refusal.
+pub use Rattle.mailbox.proofs.AreaAnswers.{not-area, not-area-sized, other-leaves, refusal-leaves}
 -- An answer with an equal vector. None is the case of number 0; the case of a number has that number, and is none where the number is 0.
 pub use Rattle.mailbox.proofs.PartAnswers.{command-vector}
 pub use Rattle.mailbox.proofs.VectorLaws.{numbered-none, carries-numbered}
@@ -41,5 +44,14 @@ pub use Rattle.mailbox.proofs.Reserved.{length-clear-refused, reserved-
 pub use Rattle.mailbox.proofs.Reserved.{mode-refused, modes-accepted}
 -- The modes of all bytes are known exactly where that of each is. After a Set Event Interrupt Policy, refused or not, five settings are five.
 pub use Rattle.mailbox.proofs.PolicyLaws.{mode-known, modes-known, five-settings}
+-- W-206, the area: a command that is lent one that has not 4,096 bytes is 0100h and leaves the device, whatever the command, the payload and the reply buffer; so one that is answered Success was
+-- lent one that has.
+pub use Rattle.mailbox.proofs.Labels.{wrong-area-refused, accepted-area}
+-- W-206, the numbers, past the checks before a command's own: a Set LSA that ends past the area, or with a reserved byte that is not zero, is 0002h, and every other Success, also with no data; a Get LSA
+-- of over 2,048 bytes, or that ends past the area, is 0002h, and every other replies the bytes of its range.
+pub use Rattle.mailbox.proofs.Labels.{past-set-refused, reserved-set-refused, inside-set-accepted, outside-get-refused, inside-got}
+-- W-206, two commands on any devices at any times: after a Set LSA that is answered Success, where nobody writes the area between, a Get LSA of the same range that is answered Success gives the data
+-- back, and one of a range apart from it gives what it gave before the Set.
+pub use Rattle.mailbox.proofs.Labels.{set-then-get, set-then-apart}
 -- To unfold `rules` is to unfold every definition of a call: on a device that is written out it then computes.
 unfoldable pub use Rattle.mailbox.proofs.Computing.{rules}

@@ -13,8 +13,10 @@ pub mod EventAnswers
 pub mod ListAnswers
 pub mod DeviceAnswers
 pub mod PartAnswers
+pub mod AreaAnswers
 pub mod Demand1
 pub mod Raising
 pub mod Reserved
+pub mod Labels
 pub mod Computing
 pub mod Laws

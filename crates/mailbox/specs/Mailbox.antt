@@ -1,11 +1,13 @@
--- What the mailbox answers to any opcode, payload, caller's time and size of the reply buffer: demand 2 for the commands. Assumes nothing.
+-- What the mailbox answers to any opcode, payload, caller's time, label area and size of the reply buffer, and what it leaves of the area: demand 2 for the commands. Assumes nothing.
 use Prim.Native.Nat.{ℕ}
-use mathlib.Core.Bool.{cond}
+use mathlib.Core.Bool.{_&&_, cond}
 use mathlib.Core.List.{List, []}
 use lib.Dec.{eqb}
 use lib.ListN.{length}
+use Rattle.labels.specs.Labels.{get-labels, set-code, set-labels}
 use Rattle.wire.specs.Wire.{field}
 use Rattle.wire.specs.Returns.{success, unsupported, need}
+use Rattle.mailbox.specs.Numbers.{mailbox-size}
 use Rattle.mailbox.specs.State.{DeviceState, lines-of, with-clock, with-policy, with-poison}
 use Rattle.mailbox.specs.Outcome.{Outcome, reads, changes, refused}
 use Rattle.mailbox.specs.Commands.{admission}
@@ -41,8 +43,8 @@ inject d p time =
     (changes-list d (inject-poison (lines-of d) (d .poison) p))
 
 -- the command of an opcode, after the checks before its own
-unfoldable pub run-command : DeviceState → ℕ → List ℕ → ℕ → Outcome
-run-command d op p time =
+unfoldable pub run-command : DeviceState → ℕ → List ℕ → ℕ → List ℕ → Outcome
+run-command d op p time area =
     cond (eqb op 0x0100) (reads d (get-event-records (d .logs) p))
     (cond (eqb op 0x0101) (clear-event-records d p)
     (cond (eqb op 0x0102) (reads d (get-policy (d .policy)))
@@ -52,13 +54,19 @@ run-command d op p time =
     (cond (eqb op 0x0400) (reads d get-supported-logs)
     (cond (eqb op 0x0401) (reads d (get-log p))
     (cond (eqb op 0x4000) (reads d (identify (d .volatile) (d .persistent)))
+    (cond (eqb op 0x4102) (reads d (get-labels mailbox-size p area))
+    (cond (eqb op 0x4103) (changes (set-code p) d)
     (cond (eqb op 0x4300) (reads d (get-poison-list (lines-of d) (d .poison) p))
     (cond (eqb op 0x4301) (inject d p time)
     (cond (eqb op 0x4302) (changes-list d (clear-poison (lines-of d) (d .poison) p (device-time (d .clock) time)))
-    (refused unsupported d))))))))))))
+    (refused unsupported d))))))))))))))
 
 -- the answer to a command: "Order for a command", then the command
-unfoldable pub outcome : DeviceState → ℕ → List ℕ → ℕ → ℕ → Outcome
-outcome d op p time room =
-    need (eqb (admission op (length p) room) success) (refused (admission op (length p) room) d)
-    (run-command d op p time)
+unfoldable pub outcome : DeviceState → ℕ → List ℕ → ℕ → List ℕ → ℕ → Outcome
+outcome d op p time area room =
+    need (eqb (admission op (length p) (length area) room) success) (refused (admission op (length p) (length area) room) d)
+    (run-command d op p time area)
+
+-- the label area after a command that was answered with this number (document 02, W-206): Set LSA "writes the data and no other byte of the area"; no other command writes it, and no refusal
+unfoldable pub area-after : ℕ → List ℕ → ℕ → List ℕ → List ℕ
+area-after op p code area = cond (eqb op 0x4103 && eqb code success) (set-labels p area) area

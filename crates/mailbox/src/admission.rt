@@ -1,14 +1,37 @@
-// The checks before a command's own (document 01, "Return numbers", "Order for a command").
+// The checks before a command's own (document 01, "Return numbers", "Order for a command"; document 02, W-206), and which of two checks decides.
 use wire::returns;
 ghost use mathlib.Core.Path.{_≡_};
 ghost use mathlib.Core.Bool.{_||_};
 ghost use lib.Dec.{eqb, leb};
-ghost use Rattle.wire.specs.Returns.{invalid-length, need};
+ghost use Rattle.wire.specs.Returns.{invalid-length, small-buffer, need};
+ghost use Rattle.labels.specs.Labels.{label-size};
 ghost use Rattle.mailbox.specs.Commands.{admission};
 
-// The number that is given before a command's own checks, 0 where there is none.
+// The first of two return numbers that refuses, 0 where none does: what is checked first decides.
+pub(crate) fn first_refusal(first: u16, second: u16) -> u16
+    ensures { λ r. ⌜ r ≡ need (eqb first 0) first second ⌝ }
+{
+    if first != returns::SUCCESS {
+        first
+    } else {
+        second
+    }
+}
+
+// The check of the label area, by its size: 0 where there is nothing to refuse.
+pub(crate) fn check_area(size: usize) -> u16
+    ensures { λ r. ⌜ r ≡ need (eqb size label-size) small-buffer 0 ⌝ }
+{
+    if size == 4096 {
+        returns::SUCCESS
+    } else {
+        returns::SMALL_BUFFER
+    }
+}
+
+// The number that is given before a command's own checks, where the label area has 4,096 bytes; 0 where there is none.
 pub(crate) fn admitted(opcode: u16, length: usize, room: usize) -> u16
-    ensures { λ r. ⌜ r ≡ admission opcode length room ⌝ }
+    ensures { λ r. ⌜ r ≡ admission opcode length label-size room ⌝ }
 {
     if room < 2048 {
         return returns::SMALL_BUFFER;
@@ -26,6 +49,8 @@ pub(crate) fn admitted(opcode: u16, length: usize, room: usize) -> u16
         0x0400 => exactly(length, 0),
         0x0401 => exactly(length, 24),
         0x4000 => exactly(length, 0),
+        0x4102 => exactly(length, 8),
+        0x4103 => at_least(length, 8),
         0x4300 => exactly(length, 16),
         0x4301 => exactly(length, 8),
         0x4302 => exactly(length, 72),

@@ -12,7 +12,7 @@ ghost use Prim.Native.Nat.{_+_, _≤_};
 ghost use lib.ListN.{length};
 ghost use Rattle.mailbox.specs.Numbers.{most-units};
 ghost use Rattle.mailbox.specs.State.{ValidDevice, state-of};
-ghost use Rattle.mailbox.specs.Mailbox.{outcome};
+ghost use Rattle.mailbox.specs.Mailbox.{outcome, area-after};
 ghost use Rattle.mailbox.specs.DeviceCalls.{make, new-device};
 ghost use Rattle.mailbox.specs.Contracts.{Answered, Makes};
 
@@ -88,11 +88,18 @@ impl Device {
         }
     }
 
-    // The device's answer to a command, with the caller's time; the reply is written to the lent buffer. The part that the command sees is taken out and put back, and the
+    // The device's answer to a command, with the caller's time; the reply is written to the lent buffer, and the label area that the caller lends is written by Set LSA alone. The part that the command sees is taken out and put back, and the
     // answer is made once after that: each further device handed over would be a copy of some 7.6 KB.
-    pub fn command(mut self, opcode: u16, payload: &[u8], time: u64, reply: &mut [u8]) -> Answer
+    pub fn command(
+        mut self,
+        opcode: u16,
+        payload: &[u8],
+        time: u64,
+        area: &mut [u8],
+        reply: &mut [u8],
+    ) -> Answer
         requires { ⌜ ValidDevice self ⌝ }
-        ensures { λ r. ⌜ Answered (outcome (state-of self) opcode (now (payload .entry)) time (length (now (reply .entry)))) self r (now (reply .entry)) (now (reply .exit)) ⌝ }
+        ensures { λ r. ⌜ Answered (outcome (state-of self) opcode (now (payload .entry)) time (now (area .entry)) (length (now (reply .entry)))) self r (now (reply .entry)) (now (reply .exit)) × (now (area .exit) ≡ area-after opcode (now (payload .entry)) (r .code) (now (area .entry))) ⌝ }
     {
         let volatile = self.volatile;
         let persistent = self.persistent;
@@ -100,7 +107,11 @@ impl Device {
         let mut code = returns::SUCCESS;
         let mut length: usize = 0;
         let mut vector = Vector::None;
-        if by_parts::of_list(opcode) {
+        if by_parts::of_area(opcode, area.len()) {
+            let done = by_parts::area_command(opcode, payload, area, reply);
+            code = done.code;
+            length = done.length;
+        } else if by_parts::of_list(opcode) {
             let list = self.poison;
             let parts = by_parts::list_command(
                 list,

@@ -8,7 +8,7 @@ ghost use Rattle.mailbox.specs.EffectsLog.{get-supported-logs, get-log};
 ghost use Rattle.mailbox.specs.Contracts.{Replied};
 
 // Opcode and effect of each command, two bytes each.
-const EFFECTS: [u8; 48] = [
+const EFFECTS: [u8; 56] = [
     0x00,
     0x01,
     0x00,
@@ -44,6 +44,14 @@ const EFFECTS: [u8; 48] = [
     0x00,
     0x40,
     0x00,
+    0x00,
+    0x02,
+    0x41,
+    0x00,
+    0x00,
+    0x03,
+    0x41,
+    0x06,
     0x00,
     0x00,
     0x43,
@@ -87,7 +95,7 @@ pub(crate) fn get_supported_logs(reply: &mut [u8]) -> Done
     wire::put(reply, 0, 2, 1);
     wire::put(reply, 2, 6, 0);
     wire::copy(&IDENTIFIER, 0, 16, reply, 8);
-    wire::put(reply, 24, 4, 48);
+    wire::put(reply, 24, 4, 56);
     Done {
         code: returns::SUCCESS,
         length: 28,
@@ -113,7 +121,7 @@ pub(crate) fn get_log(payload: &[u8], reply: &mut [u8]) -> Done
             length: 0,
         };
     }
-    if 48 < offset + size {
+    if 56 < offset + size {
         return Done {
             code: returns::INVALID_INPUT,
             length: 0,

@@ -1,5 +1,6 @@
 // The poison commands: the checks of an address, then the poison list's own functions (document 01, "Poison list"). No sum of an address and a
 // number of lines is made in 64 bits before it is known to fit: "Sums are of whole numbers."
+use crate::admission;
 use poison::clear;
 use poison::inject;
 use poison::range;
@@ -31,17 +32,6 @@ pub(crate) struct ListInjected {
     pub code: u16,
     pub count: usize,
     pub added: bool,
-}
-
-// The first of two return numbers that refuses, 0 where none does: what is checked first decides.
-fn first_refusal(first: u16, second: u16) -> u16
-    ensures { λ r. ⌜ r ≡ need (eqb first 0) first second ⌝ }
-{
-    if first != returns::SUCCESS {
-        first
-    } else {
-        second
-    }
 }
 
 // The check that an address is a line's.
@@ -84,7 +74,7 @@ pub(crate) fn check_range(lines: u32, address: u64, n: u64) -> u16
 {
     let aligned = check_aligned(address);
     let inside = check_end(lines, address / 64, n);
-    first_refusal(aligned, inside)
+    admission::first_refusal(aligned, inside)
 }
 
 // Inject Poison in the list; the flag and its time stay as they are, whatever they are.

@@ -1,10 +1,10 @@
--- The mailbox's answers said of a record's bytes, each answer with its line, and which of them serves a record of each mark. Assumes nothing.
+-- The mailbox's answers said of a record's bytes, each answer with its line, and which of them serves a record of each mark that sees the device alone. Assumes nothing.
 use mathlib.Core.Path.{_≡_, refl, sym, ap, ap₂, _∙_}
 use mathlib.Core.Bool.{Bool, true, cond}
 use mathlib.Core.List.{List, [], _∷_}
 use Prim.Native.Nat.{ℕ, _+_, _-_, _≤_, _<_}
 use native.Mathlib.Omega.{arith}
-use lib.ListN.{length, drop, getD, length-replicate}
+use lib.ListN.{length, take, drop, getD, length-take, length-replicate}
 use borrow.Author.Tests.{ne-eqb}
 use Rattle.wire.specs.Wire.{field}
 use Rattle.events.specs.declared.status.Status.{Status}
@@ -31,18 +31,22 @@ use Rattle.host_records.specs.HostRequests.{serve-request}
 use Rattle.host_records.specs.HostReplies.{serve-reply}
 use Rattle.host_records.specs.HostRewrites.{serve-again}
 use Rattle.host_records.specs.HostWalks.{serve-walk}
-use Rattle.probe.specs.Calls.{command-call, filled, event-call, command-line, serve-new, serve-command, serve-event, serve-media, serve-line, serve-status, serve-total, serve-record}
+use Rattle.probe.specs.Calls.{command-call, filled, event-call, command-line, serve-new, serve-command, serve-event, serve-media, serve-line, serve-status, serve-total, serve-device}
+
+-- the first bytes of a buffer, as many as are lent
+pub taken : (n : ℕ) (l : List ℕ) → n ≤ length l → length (take n l) ≡ n
+taken n l fits = rw length-take (omega arith)
 
 -- a buffer of the record's room is as long as the one that was filled
 pub filled-long : (bytes buffer : List ℕ) → length buffer ≡ field bytes 12 2 → length buffer ≡ length (filled bytes)
 filled-long bytes buffer e = e ∙ sym (length-replicate (field bytes 12 2) (getD bytes 14 0))
 
 -- whatever a command answers, the bytes that its reply leaves of the buffer are still as they were filled: the column `kept` of every CM line is 1
-pub command-kept : (bytes after : List ℕ) {d : Device} {a : Answer} → Answered (command-call (state-of d) bytes) d a (filled bytes) after → length after ≡ length (filled bytes)
+pub command-kept : (bytes area after : List ℕ) {d : Device} {a : Answer} → Answered (command-call (state-of d) area bytes) d a (filled bytes) after → length after ≡ length (filled bytes)
     → still (getD bytes 14 0) (drop (a .length) after) ≡ true
-command-kept bytes after {d} told kept =
+command-kept bytes area after {d} told kept =
     ap₂ (λ (n : ℕ) (b : List ℕ). still (getD bytes 14 0) (drop n b)) (told .size) (told .bytes)
-    ∙ always-kept (getD bytes 14 0) (field bytes 12 2) (command-call (state-of d) bytes .reply)
+    ∙ always-kept (getD bytes 14 0) (field bytes 12 2) (command-call (state-of d) area bytes .reply)
     (omega (arith, told .size, reply-fits told kept, kept, length-replicate (field bytes 12 2) (getD bytes 14 0)))
 
 -- each record served
@@ -61,11 +65,12 @@ pub command-put : (code n fill vector : ℕ) (buffer : List ℕ) {used k m e : �
 command-put code n fill vector buffer start last end room =
     record { puts = puts-then (puts-then start last (omega (arith, last .end))) end (omega arith); room = omega (arith, end .end) }
 
-pub command-served : (bytes reply : List ℕ) {d : Device} {a : Answer} {before after : List ℕ} {used e vector : ℕ} → Answered (command-call (state-of d) bytes) d a (filled bytes) reply
+pub command-served : (bytes area reply : List ℕ) {d : Device} {a : Answer} {before after : List ℕ} {used e vector : ℕ}
+    → Answered (command-call (state-of d) area bytes) d a (filled bytes) reply
     → vector ≡ vector-number (a .vector) → PutsLine used (command-line (a .code) (a .length) (getD bytes 14 0) reply vector) before after e
-    → Serves (serve-command (state-of d) bytes) used (record { used = e; device = a .device }) before after
+    → Serves (serve-command (state-of d) area bytes) used (record { used = e; device = a .device }) before after
 unfolding serve-command
-command-served bytes reply told number put =
+command-served bytes area reply told number put =
     record {
       line = puts-line-as put (λ i. command-line (told .code i) (told .size i) (getD bytes 14 0) (told .bytes i) ((number ∙ told .vector .number) i));
       next = told .next;
@@ -113,70 +118,65 @@ pub total-served : (d : Device) {n : ℕ} {before after : List ℕ} {used e : �
 unfolding serve-total
 total-served d told put valid = record { line = puts-line-as put (ap (λ (k : ℕ). numbers-line DT (k ∷ [])) told); next = refl; valid = valid }
 
--- which of them serves a record, by its mark
+-- which of them serves a record that sees the device alone, by its mark
 module _ (d : DeviceState) (r : List ℕ) {used : ℕ} {s : Served} {before after : List ℕ} where
-  pub by-new : mark-of r ≡ mark-of NW → Serves (serve-new r) used s before after → Serves (serve-record d r) used s before after
-  unfolding serve-record
+  pub by-new : mark-of r ≡ mark-of NW → Serves (serve-new r) used s before after → Serves (serve-device d r) used s before after
+  unfolding serve-device
   by-new e h = serves-as h (rw e)
 
-  pub by-command : mark-of r ≡ mark-of CM → Serves (serve-command d r) used s before after → Serves (serve-record d r) used s before after
-  unfolding serve-record
-  by-command e h = serves-as h (rw e)
-
-  pub by-event : mark-of r ≡ mark-of EV → Serves (serve-event d r) used s before after → Serves (serve-record d r) used s before after
-  unfolding serve-record
+  pub by-event : mark-of r ≡ mark-of EV → Serves (serve-event d r) used s before after → Serves (serve-device d r) used s before after
+  unfolding serve-device
   by-event e h = serves-as h (rw e)
 
-  pub by-media : mark-of r ≡ mark-of MD → Serves (serve-media d r) used s before after → Serves (serve-record d r) used s before after
-  unfolding serve-record
+  pub by-media : mark-of r ≡ mark-of MD → Serves (serve-media d r) used s before after → Serves (serve-device d r) used s before after
+  unfolding serve-device
   by-media e h = serves-as h (rw e)
 
-  pub by-line : mark-of r ≡ mark-of LT → Serves (serve-line d r) used s before after → Serves (serve-record d r) used s before after
-  unfolding serve-record
+  pub by-line : mark-of r ≡ mark-of LT → Serves (serve-line d r) used s before after → Serves (serve-device d r) used s before after
+  unfolding serve-device
   by-line e h = serves-as h (rw e)
 
-  pub by-status : mark-of r ≡ mark-of ES → Serves (serve-status d) used s before after → Serves (serve-record d r) used s before after
-  unfolding serve-record
+  pub by-status : mark-of r ≡ mark-of ES → Serves (serve-status d) used s before after → Serves (serve-device d r) used s before after
+  unfolding serve-device
   by-status e h = serves-as h (rw e)
 
-  pub by-request : mark-of r ≡ mark-of RQ → Serves (serve-request d r) used s before after → Serves (serve-record d r) used s before after
-  unfolding serve-record
+  pub by-request : mark-of r ≡ mark-of RQ → Serves (serve-request d r) used s before after → Serves (serve-device d r) used s before after
+  unfolding serve-device
   by-request e h = serves-as h (rw e)
 
-  pub by-reply : mark-of r ≡ mark-of RP → Serves (serve-reply d r) used s before after → Serves (serve-record d r) used s before after
-  unfolding serve-record
+  pub by-reply : mark-of r ≡ mark-of RP → Serves (serve-reply d r) used s before after → Serves (serve-device d r) used s before after
+  unfolding serve-device
   by-reply e h = serves-as h (rw e)
 
-  pub by-again : mark-of r ≡ mark-of RW → Serves (serve-again d r) used s before after → Serves (serve-record d r) used s before after
-  unfolding serve-record
+  pub by-again : mark-of r ≡ mark-of RW → Serves (serve-again d r) used s before after → Serves (serve-device d r) used s before after
+  unfolding serve-device
   by-again e h = serves-as h (rw e)
 
-  pub by-walk : mark-of r ≡ mark-of WK → Serves (serve-walk d r) used s before after → Serves (serve-record d r) used s before after
-  unfolding serve-record
+  pub by-walk : mark-of r ≡ mark-of WK → Serves (serve-walk d r) used s before after → Serves (serve-device d r) used s before after
+  unfolding serve-device
   by-walk e h = serves-as h (rw e)
 
-  pub by-total : mark-of r ≡ mark-of DT → Serves (serve-total d) used s before after → Serves (serve-record d r) used s before after
-  unfolding serve-record
+  pub by-total : mark-of r ≡ mark-of DT → Serves (serve-total d) used s before after → Serves (serve-device d r) used s before after
+  unfolding serve-device
   by-total e h = serves-as h (rw e)
 
--- a mark that no record has: nothing is printed
-pub by-none : (r : List ℕ) {d : Device} {used : ℕ} {out : List ℕ} → (mark-of r ≡ mark-of NW → ⊥) → (mark-of r ≡ mark-of CM → ⊥) → (mark-of r ≡ mark-of EV → ⊥)
+-- a mark that no such record has: nothing is printed
+pub by-none : (r : List ℕ) {d : Device} {used : ℕ} {out : List ℕ} → (mark-of r ≡ mark-of NW → ⊥) → (mark-of r ≡ mark-of EV → ⊥)
     → (mark-of r ≡ mark-of MD → ⊥) → (mark-of r ≡ mark-of LT → ⊥) → (mark-of r ≡ mark-of ES → ⊥) → (mark-of r ≡ mark-of DT → ⊥) → (mark-of r ≡ mark-of RQ → ⊥)
     → (mark-of r ≡ mark-of RP → ⊥) → (mark-of r ≡ mark-of RW → ⊥) → (mark-of r ≡ mark-of WK → ⊥) → ValidDevice d
-    → PutsLine used [] out out used → Serves (serve-record (state-of d) r) used (record { used = used; device = d }) out out
-unfolding serve-record
-by-none r {d} {used} {out} h₁ h₂ h₃ h₄ h₅ h₆ h₇ h₈ h₉ h₁₀ h₁₁ valid put =
+    → PutsLine used [] out out used → Serves (serve-device (state-of d) r) used (record { used = used; device = d }) out out
+unfolding serve-device
+by-none r {d} {used} {out} h₁ h₂ h₃ h₄ h₅ h₆ h₇ h₈ h₉ h₁₀ valid put =
     serves-as {o = record { line = []; next = state-of d }} (record { line = put; next = refl; valid = valid })
     (rw (
       ne-eqb (mark-of r) (mark-of NW) h₁,
-      ne-eqb (mark-of r) (mark-of CM) h₂,
-      ne-eqb (mark-of r) (mark-of EV) h₃,
-      ne-eqb (mark-of r) (mark-of MD) h₄,
-      ne-eqb (mark-of r) (mark-of LT) h₅,
-      ne-eqb (mark-of r) (mark-of ES) h₆,
-      ne-eqb (mark-of r) (mark-of DT) h₇,
-      ne-eqb (mark-of r) (mark-of RQ) h₈,
-      ne-eqb (mark-of r) (mark-of RP) h₉,
-      ne-eqb (mark-of r) (mark-of RW) h₁₀,
-      ne-eqb (mark-of r) (mark-of WK) h₁₁,
+      ne-eqb (mark-of r) (mark-of EV) h₂,
+      ne-eqb (mark-of r) (mark-of MD) h₃,
+      ne-eqb (mark-of r) (mark-of LT) h₄,
+      ne-eqb (mark-of r) (mark-of ES) h₅,
+      ne-eqb (mark-of r) (mark-of DT) h₆,
+      ne-eqb (mark-of r) (mark-of RQ) h₇,
+      ne-eqb (mark-of r) (mark-of RP) h₈,
+      ne-eqb (mark-of r) (mark-of RW) h₉,
+      ne-eqb (mark-of r) (mark-of WK) h₁₀,
     ))

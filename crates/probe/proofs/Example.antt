@@ -1,6 +1,7 @@
 -- An example of the probe program, from the bytes of its input to the bytes of its output, by computation with the definitions that the contracts cite: a refused
 -- make whose device is used on, refused calls with their whole answers, a buffer too small and one large enough, status and total, a walk, requests and replies of the
--- host library, a later make, a vector raised by a report and one by an injection, a report that raises none, and a mark that is not there yet. Assumes nothing.
+-- host library, a later make, a vector raised by a report and one by an injection, a report that raises none, labels written and read, a label area of another size that a
+-- make leaves as it is, and a mark that is not there yet. Assumes nothing.
 use mathlib.Core.Path.{_≡_, refl}
 use mathlib.Core.List.{List, [], _∷_, _++_}
 use Prim.Native.Nat.{ℕ}
@@ -23,12 +24,14 @@ use Rattle.host_records.specs.HostRequests.{request-of, request-built, serve-re
 use Rattle.host_records.specs.HostReplies.{each-of, record-columns, refusal-line, line-of, reply-line, serve-reply}
 use Rattle.host_records.specs.HostRewrites.{read-then, written-again, serve-again}
 use Rattle.host_records.specs.HostWalks.{serve-walk}
-use Rattle.probe.specs.Calls.{serve-new, serve-command, serve-event, serve-media, serve-line, serve-status, serve-total, serve-record, probe}
+use Rattle.probe.specs.LabelRecords.{kept-first, serve-area, serve-bytes}
+use Rattle.probe.specs.Calls.{serve-new, serve-command, serve-lent, serve-event, serve-media, serve-line, serve-status, serve-total, serve-device, serve-record, probe}
 
 -- "NW 0 0; LT at the last line of one unit, and past it; CM 0300h with a room of 0, and of 2,048 bytes of 55h; EV of one byte; MD of type 3; MD address 64, 2 lines,
 -- type 1; DT; ES; WK address 0, 4 lines, with a room of 17 bytes of AAh, and of 15; RQ 0100h log 3; RQ 0301h with a room of 7; RQ 0101h log 1 and handles 1, 2;
 -- RW 0300h; RP 0300h of 8 bytes, and of 7; RP 4300h with one record, and with its byte 1 set; NW 1 0; DT;
--- CM 0103h of 01 00 00 00 01; EV of 128 zero bytes to log 4; CM 4301h at address 64; the EV to log 0; PC"
+-- CM 0103h of 01 00 00 00 01; EV of 128 zero bytes to log 4; CM 4301h at address 64; the EV to log 0;
+-- CM 4103h of 0A 0B at offset 4,094; AB of 4 bytes at offset 4,093; AR 4,095; CM 4102h of 2 bytes at offset 4,094; NW 1 0; the CM; AR 4,096; the CM; AB of none at 8,192; PC"
 input : List ℕ
 input =
     (78 ∷ 87 ∷ 0 ∷ 0 ∷ 0 ∷ 0 ∷ [])
@@ -57,12 +60,22 @@ input =
     ++ (69 ∷ 86 ∷ []) ++ replicate 8 0 ++ (4 ∷ 128 ∷ 0 ∷ []) ++ replicate 128 0
     ++ (67 ∷ 77 ∷ []) ++ replicate 8 0 ++ (1 ∷ 67 ∷ 0 ∷ 8 ∷ 85 ∷ 8 ∷ 0 ∷ 64 ∷ []) ++ replicate 7 0
     ++ (69 ∷ 86 ∷ []) ++ replicate 8 0 ++ (0 ∷ 128 ∷ 0 ∷ []) ++ replicate 128 0
+    ++ (67 ∷ 77 ∷ []) ++ replicate 8 0 ++ (3 ∷ 65 ∷ 0 ∷ 8 ∷ 85 ∷ 10 ∷ 0 ∷ 254 ∷ 15 ∷ 0 ∷ 0 ∷ 0 ∷ 0 ∷ 0 ∷ 0 ∷ 10 ∷ 11 ∷ [])
+    ++ (65 ∷ 66 ∷ 253 ∷ 15 ∷ 4 ∷ 0 ∷ [])
+    ++ (65 ∷ 82 ∷ 255 ∷ 15 ∷ 0 ∷ 0 ∷ [])
+    ++ (67 ∷ 77 ∷ []) ++ replicate 8 0 ++ (2 ∷ 65 ∷ 0 ∷ 8 ∷ 85 ∷ 8 ∷ 0 ∷ 254 ∷ 15 ∷ 0 ∷ 0 ∷ 2 ∷ 0 ∷ 0 ∷ 0 ∷ [])
+    ++ (78 ∷ 87 ∷ 1 ∷ 0 ∷ 0 ∷ 0 ∷ [])
+    ++ (67 ∷ 77 ∷ []) ++ replicate 8 0 ++ (2 ∷ 65 ∷ 0 ∷ 8 ∷ 85 ∷ 8 ∷ 0 ∷ 254 ∷ 15 ∷ 0 ∷ 0 ∷ 2 ∷ 0 ∷ 0 ∷ 0 ∷ [])
+    ++ (65 ∷ 82 ∷ 0 ∷ 16 ∷ 0 ∷ 0 ∷ [])
+    ++ (67 ∷ 77 ∷ []) ++ replicate 8 0 ++ (2 ∷ 65 ∷ 0 ∷ 8 ∷ 85 ∷ 8 ∷ 0 ∷ 254 ∷ 15 ∷ 0 ∷ 0 ∷ 2 ∷ 0 ∷ 0 ∷ 0 ∷ [])
+    ++ (65 ∷ 66 ∷ 0 ∷ 32 ∷ 0 ∷ 0 ∷ [])
     ++ (80 ∷ 67 ∷ [])
 
 -- "NW 2", "LT 0 0 0", "LT 15 2 0", "CM 256 0 - 1 0", "CM 0 8 0000000000000000 1 0", "EV 22 0 0", "MD 2 0 0", "MD 0 2 0", "DT 2", "ES 0 0 5",
 -- "WK 0 16 41000000000000000200000000000000 1", "WK 256 0 - 1", "RQ 0 1 03 1", "RQ 256 0 - 1", "RQ 0 10 01000200000001000200 1",
 -- "RW 0 8 0102030405060708 1", "RP 0 1", "RP 22", "RP 0 0 0 1 64 1 2", "RP 2 1", "NW 0", "DT 0", "CM 0 0 - 1 0", "EV 0 1 2",
--- "CM 0 0 - 1 2", "EV 0 1 0", "BAD 717"
+-- "CM 0 0 - 1 2", "EV 0 1 0", "CM 0 0 - 1 0", "AB 000a0b00", "AR", "CM 256 0 - 1 0", "NW 0", "CM 256 0 - 1 0", "AR", "CM 0 2 0a0b 1 0", "AB -",
+-- "BAD 849"
 output : List ℕ
 output =
     (78 ∷ 87 ∷ 32 ∷ 50 ∷ 10 ∷ [])
@@ -91,9 +104,18 @@ output =
     ++ (69 ∷ 86 ∷ 32 ∷ 48 ∷ 32 ∷ 49 ∷ 32 ∷ 50 ∷ 10 ∷ [])
     ++ (67 ∷ 77 ∷ 32 ∷ 48 ∷ 32 ∷ 48 ∷ 32 ∷ 45 ∷ 32 ∷ 49 ∷ 32 ∷ 50 ∷ 10 ∷ [])
     ++ (69 ∷ 86 ∷ 32 ∷ 48 ∷ 32 ∷ 49 ∷ 32 ∷ 48 ∷ 10 ∷ [])
-    ++ (66 ∷ 65 ∷ 68 ∷ 32 ∷ 55 ∷ 49 ∷ 55 ∷ 10 ∷ [])
+    ++ (67 ∷ 77 ∷ 32 ∷ 48 ∷ 32 ∷ 48 ∷ 32 ∷ 45 ∷ 32 ∷ 49 ∷ 32 ∷ 48 ∷ 10 ∷ [])
+    ++ (65 ∷ 66 ∷ 32 ∷ 48 ∷ 48 ∷ 48 ∷ 97 ∷ 48 ∷ 98 ∷ 48 ∷ 48 ∷ 10 ∷ [])
+    ++ (65 ∷ 82 ∷ 10 ∷ [])
+    ++ (67 ∷ 77 ∷ 32 ∷ 50 ∷ 53 ∷ 54 ∷ 32 ∷ 48 ∷ 32 ∷ 45 ∷ 32 ∷ 49 ∷ 32 ∷ 48 ∷ 10 ∷ [])
+    ++ (78 ∷ 87 ∷ 32 ∷ 48 ∷ 10 ∷ [])
+    ++ (67 ∷ 77 ∷ 32 ∷ 50 ∷ 53 ∷ 54 ∷ 32 ∷ 48 ∷ 32 ∷ 45 ∷ 32 ∷ 49 ∷ 32 ∷ 48 ∷ 10 ∷ [])
+    ++ (65 ∷ 82 ∷ 10 ∷ [])
+    ++ (67 ∷ 77 ∷ 32 ∷ 48 ∷ 32 ∷ 50 ∷ 32 ∷ 48 ∷ 97 ∷ 48 ∷ 98 ∷ 32 ∷ 49 ∷ 32 ∷ 48 ∷ 10 ∷ [])
+    ++ (65 ∷ 66 ∷ 32 ∷ 45 ∷ 10 ∷ [])
+    ++ (66 ∷ 65 ∷ 68 ∷ 32 ∷ 56 ∷ 52 ∷ 57 ∷ 10 ∷ [])
 
 -- the definitions give these lines
-example : printed probe 30 (new-device 1 0) 0 input ≡ output
-unfolding printed input output rules numeral columns hex bad-line last-line whole tells front-size fixed head size probe-least probe-fixed probe-head probe-within probe-rest probe-size still buffer-columns buffer-line serve-new serve-command serve-event serve-media serve-line serve-status serve-total serve-request serve-walk serve-reply reply-line line-of refusal-line each-of record-columns serve-again written-again read-then read-timestamp write-bytes read-poison-list list-fields poison-record verdict counted first-reserved reserved record-reserved header-size record-size count-place serve-record request-head request-within request-rest written-line request-built request-of build payload countable handles-at clear-payload handle-bytes walk-on walk walked halves
+example : printed probe 40 (kept-first (new-device 1 0)) 0 input ≡ output
+unfolding printed input output rules numeral columns hex bad-line last-line whole tells front-size fixed head size probe-least probe-fixed probe-head probe-within probe-rest probe-size still buffer-columns buffer-line serve-new serve-command serve-lent serve-area serve-bytes serve-event serve-media serve-line serve-status serve-total serve-request serve-walk serve-reply reply-line line-of refusal-line each-of record-columns serve-again written-again read-then read-timestamp write-bytes read-poison-list list-fields poison-record verdict counted first-reserved reserved record-reserved header-size record-size count-place serve-device serve-record request-head request-within request-rest written-line request-built request-of build payload countable handles-at clear-payload handle-bytes walk-on walk walked halves
 example = refl

@@ -1,5 +1,6 @@
-// Each record given to the device, and its line printed (document 10, "Records of the base" and the row of W-204). A record's function gives the device that
-// follows. The records of the host library have modules of their own.
+// Each record given to the device, and its line printed (document 10, "Records of the base" and the rows of W-204 and W-206). A record's function gives the device
+// that follows. The records of the host library and the lines of the label store's records have modules of their own.
+use crate::label_records;
 use host_records::buffer;
 use host_records::buffer::LINE_ROOM;
 use host_records::replies;
@@ -31,7 +32,17 @@ ghost use Rattle.protocol.specs.Formats.{Ready};
 ghost use Rattle.protocol.specs.Contracts.{Serves};
 ghost use Rattle.protocol.specs.Runs.{machine-of, Ends};
 ghost use Rattle.host_records.specs.Lines.{line-room};
-ghost use Rattle.probe.specs.Calls.{command-call, filled, event-call, serve-new, serve-command, serve-event, serve-media, serve-line, serve-status, serve-total, serve-record, probe};
+ghost use Rattle.probe.specs.LabelRecords.{zeros, kept-first};
+ghost use Rattle.probe.specs.Calls.{command-call, area-left, filled, event-call, serve-new, serve-command, serve-lent, serve-event, serve-media, serve-line, serve-status, serve-total, serve-device, serve-record, probe};
+ghost use Rattle.probe.specs.Contracts.{kept-of, Leaves};
+
+// A record served: the device that follows, how many bytes of the label store are lent from then on, and the bytes of the output buffer that are not written yet, with
+// the record's line.
+pub struct ServedRecord {
+    pub used: usize,
+    pub device: Device,
+    pub lent: usize,
+}
 
 // NW (volatile 2, persistent 2): the device made takes the place of the old one, also where it stands beside a refusal.
 fn make(bytes: &[u8], out: &mut [u8], used: usize) -> Served
@@ -49,23 +60,30 @@ fn make(bytes: &[u8], out: &mut [u8], used: usize) -> Served
     }
 }
 
-// CM (time 8, opcode 2, room 2, fill 1, length 2, payload): the call, with a buffer of `room` bytes.
-fn call_command(device: Device, bytes: &[u8], reply: &mut [u8]) -> Answer
+// CM (time 8, opcode 2, room 2, fill 1, length 2, payload): the call, with the label area lent and a buffer of `room` bytes.
+fn call_command(device: Device, bytes: &[u8], area: &mut [u8], reply: &mut [u8]) -> Answer
     requires { ⌜ ValidDevice device × (17 ≤ length (now bytes)) × (length (now reply) ≡ field (now bytes) 12 2) ⌝ }
-    ensures { λ r. ⌜ Answered (command-call (state-of device) (now (bytes .entry))) device r (filled (now (bytes .entry))) (now (reply .exit)) ⌝ }
+    ensures { λ r. ⌜ Answered (command-call (state-of device) (now (area .entry)) (now (bytes .entry))) device r (filled (now (bytes .entry))) (now (reply .exit)) × (now (area .exit) ≡ area-left (now (area .entry)) (now (bytes .entry)) (r .code)) ⌝ }
 {
     let time = wire::get(bytes, 2, 8);
     let opcode = wire::get(bytes, 10, 2) as u16;
     buffer::fill(reply, bytes[14]);
-    device.command(opcode, &bytes[17..], time, reply)
+    device.command(opcode, &bytes[17..], time, area, reply)
 }
 
 // CM: the return number, what came back in the buffer, and the vector to raise.
-fn command(device: Device, bytes: &[u8], reply: &mut [u8], out: &mut [u8], used: usize) -> Served
+fn command(
+    device: Device,
+    bytes: &[u8],
+    area: &mut [u8],
+    reply: &mut [u8],
+    out: &mut [u8],
+    used: usize,
+) -> Served
     requires { ⌜ ValidDevice device × (17 ≤ length (now bytes)) × (length (now reply) ≡ field (now bytes) 12 2) × (field (now bytes) 12 2 ≤ 4096) × (used + line-room ≤ length (now out)) ⌝ }
-    ensures { λ r. ⌜ Serves (serve-command (state-of device) (now (bytes .entry))) used r (now (out .entry)) (now (out .exit)) ⌝ }
+    ensures { λ r. ⌜ Serves (serve-command (state-of device) (now (area .entry)) (now (bytes .entry))) used r (now (out .entry)) (now (out .exit)) × (now (area .exit) ≡ area-left (now (area .entry)) (now (bytes .entry)) (command-call (state-of device) (now (area .entry)) (now (bytes .entry)) .code)) ⌝ }
 {
-    let answer = call_command(device, bytes, reply);
+    let answer = call_command(device, bytes, area, reply);
     let raised = answer.vector;
     let vector = vector_number(raised) as u64;
     let columns = buffer::put_buffer(
@@ -84,6 +102,36 @@ fn command(device: Device, bytes: &[u8], reply: &mut [u8], out: &mut [u8], used:
     Served {
         used: end,
         device: next,
+    }
+}
+
+// CM, lent the first `lent` bytes of the label store, and as much of the buffer as the record asks for.
+fn command_lent(
+    device: Device,
+    lent: usize,
+    bytes: &[u8],
+    store: &mut [u8],
+    reply: &mut [u8],
+    out: &mut [u8],
+    used: usize,
+) -> ServedRecord
+    requires { ⌜ ValidDevice device × (17 ≤ length (now bytes)) × (field (now bytes) 12 2 ≤ 4096) × (lent ≤ 8192) × (length (now store) ≡ 8192) × (length (now reply) ≡ 65536) × (used + line-room ≤ length (now out)) ⌝ }
+    ensures { λ r. ⌜ Leaves (serve-lent (kept-of device (now (store .entry)) lent) (now (bytes .entry))) used r (now (store .exit)) (now (out .entry)) (now (out .exit)) ⌝ }
+{
+    let room = wire::get(bytes, 12, 2) as usize;
+    let served = command(
+        device,
+        bytes,
+        &mut store[..lent],
+        &mut reply[..room],
+        out,
+        used,
+    );
+    let next = served.device;
+    ServedRecord {
+        used: served.used,
+        device: next,
+        lent,
     }
 }
 
@@ -173,17 +221,19 @@ fn total(device: Device, out: &mut [u8], used: usize) -> Served
     Served { used: end, device }
 }
 
-// Serves a record by its mark. A call is lent as much of the buffer as the record asks for.
-fn serve(device: Device, bytes: &[u8], reply: &mut [u8], out: &mut [u8], used: usize) -> Served
+// Serves a record that sees the device alone, by its mark. A call is lent as much of the buffer as the record asks for.
+fn serve_device(
+    device: Device,
+    bytes: &[u8],
+    reply: &mut [u8],
+    out: &mut [u8],
+    used: usize,
+) -> Served
     requires { ⌜ ValidDevice device × Ready (now bytes) × (length (now reply) ≡ 65536) × (used + line-room ≤ length (now out)) ⌝ }
-    ensures { λ r. ⌜ Serves (serve-record (state-of device) (now (bytes .entry))) used r (now (out .entry)) (now (out .exit)) ⌝ }
+    ensures { λ r. ⌜ Serves (serve-device (state-of device) (now (bytes .entry))) used r (now (out .entry)) (now (out .exit)) ⌝ }
 {
     match mark(bytes) {
         0x4E57 => make(bytes, out, used), // NW
-        0x434D => { // CM
-            let room = wire::get(bytes, 12, 2) as usize;
-            command(device, bytes, &mut reply[..room], out, used)
-        }
         0x4556 => event(device, bytes, out, used), // EV
         0x4D44 => media(device, bytes, out, used), // MD
         0x4C54 => line(device, bytes, out, used), // LT
@@ -206,14 +256,59 @@ fn serve(device: Device, bytes: &[u8], reply: &mut [u8], out: &mut [u8], used: u
     }
 }
 
-// Serves the records: how many bytes of the output buffer are not written yet. The first record is a make, so that the device before it serves none. A proved
-// loop has to end: it does at an offset that no input reaches.
-pub(crate) fn run(input: &mut [u8], out: &mut [u8], reply: &mut [u8]) -> usize
-    requires { ⌜ (length (now input) ≡ 65536) × (length (now out) ≡ 65536) × (length (now reply) ≡ 65536) ⌝ }
-    ensures { λ r. ⌜ (r ≤ 65536) × Ends probe (machine-of (new-device 1 0) unread (now (input .entry)) (now (out .entry))) r (now (out .exit)) ⌝ }
+// Serves a record by its mark. AR (size 4) says how many bytes of the label store are lent from then on; AB prints some of its bytes.
+fn serve(
+    device: Device,
+    lent: usize,
+    bytes: &[u8],
+    store: &mut [u8],
+    reply: &mut [u8],
+    out: &mut [u8],
+    used: usize,
+) -> ServedRecord
+    requires { ⌜ ValidDevice device × Ready (now bytes) × (lent ≤ 8192) × (length (now store) ≡ 8192) × (length (now reply) ≡ 65536) × (used + line-room ≤ length (now out)) ⌝ }
+    ensures { λ r. ⌜ Leaves (serve-record (kept-of device (now (store .entry)) lent) (now (bytes .entry))) used r (now (store .exit)) (now (out .entry)) (now (out .exit)) ⌝ }
+{
+    match mark(bytes) {
+        0x434D => command_lent(device, lent, bytes, store, reply, out, used), // CM
+        0x4152 => { // AR
+            let size = wire::get(bytes, 2, 4) as usize;
+            let end = label_records::put_area(out, used);
+            ServedRecord {
+                used: end,
+                device,
+                lent: size,
+            }
+        }
+        0x4142 => { // AB
+            let end = label_records::put_stored(bytes, store, out, used);
+            ServedRecord {
+                used: end,
+                device,
+                lent,
+            }
+        }
+        _ => {
+            let served = serve_device(device, bytes, reply, out, used);
+            let next = served.device;
+            ServedRecord {
+                used: served.used,
+                device: next,
+                lent,
+            }
+        }
+    }
+}
+
+// Serves the records: how many bytes of the output buffer are not written yet. The first record is a make, so that the device before it serves none. The label store
+// starts as zeros. A proved loop has to end: it does at an offset that no input reaches.
+pub(crate) fn run(input: &mut [u8], out: &mut [u8], store: &mut [u8], reply: &mut [u8]) -> usize
+    requires { ⌜ (length (now input) ≡ 65536) × (length (now out) ≡ 65536) × (length (now reply) ≡ 65536) × (now store ≡ zeros) ⌝ }
+    ensures { λ r. ⌜ (r ≤ 65536) × Ends probe (machine-of (kept-first (new-device 1 0)) unread (now (input .entry)) (now (out .entry))) r (now (out .exit)) ⌝ }
 {
     let made = Device::make(1, 0);
     let mut device = made.device;
+    let mut lent: usize = 4096;
     let mut s = Stream::new();
     while s.offset < 9223372036854775808 {
         let found = formats::next(Format::Probe, s, input, out);
@@ -225,9 +320,10 @@ pub(crate) fn run(input: &mut [u8], out: &mut [u8], reply: &mut [u8]) -> usize
         }
         let mut rest = here.past(found.size);
         let to = rest.at;
-        let served = serve(device, &input[at..to], reply, out, used);
+        let served = serve(device, lent, &input[at..to], store, reply, out, used);
         let next = served.device;
         device = next;
+        lent = served.lent;
         rest.used = served.used;
         s = rest;
     }

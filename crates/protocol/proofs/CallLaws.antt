@@ -1,5 +1,5 @@
 -- The mailbox's answers said of a record's bytes; the reply in its buffer; a record served, by another name. Assumes nothing.
-use mathlib.Core.Path.{_≡_, sym, ap, subst}
+use mathlib.Core.Path.{_≡_, sym, ap, ap₂, subst, _∙_}
 use mathlib.Core.List.{List}
 use Prim.Native.Nat.{ℕ, _-_, _≤_}
 use native.Mathlib.Omega.{arith}
@@ -14,7 +14,7 @@ use Rattle.mailbox.specs.declared.device_calls.MediaAnswer.{MediaAnswer}
 use Rattle.mailbox.specs.declared.device_calls.LineAnswer.{LineAnswer}
 use Rattle.mailbox.specs.State.{DeviceState, state-of}
 use Rattle.mailbox.specs.Outcome.{Outcome}
-use Rattle.mailbox.specs.Mailbox.{outcome}
+use Rattle.mailbox.specs.Mailbox.{outcome, area-after}
 use Rattle.mailbox.specs.DeviceCalls.{MakeOutcome, EventOutcome, MediaOutcome, LineOutcome, make, event-report, media-report, line-test}
 use Rattle.mailbox.specs.Contracts.{Answered, Makes, EventDone, MediaDone, LineDone}
 use Rattle.protocol.specs.declared.calls.Served.{Served}
@@ -27,11 +27,16 @@ pub rest-of : (n : ℕ) (xs : List ℕ) → take (length xs - n) (drop n xs) ≡
 rest-of n xs = take-all (length xs - n) (drop n xs) (rw length-drop (omega arith))
 
 -- a command and an event report at equal arguments: what was called with, and what a record's fields say
-pub command-at : {op op' time time' room room' : ℕ} {payload payload' before before' after : List ℕ} {d : Device} {r : Answer}
-    → Answered (outcome (state-of d) op payload time room) d r before after → op ≡ op' → payload ≡ payload' → time ≡ time' → room ≡ room' → before ≡ before'
-    → Answered (outcome (state-of d) op' payload' time' room') d r before' after
-command-at {after = after} {d = d} {r = r} h eo ep et er eb =
-    subst (λ (x : Outcome × List ℕ). Answered (x .0) d r (x .1) after) (λ i. (outcome (state-of d) (eo i) (ep i) (et i) (er i), eb i)) h
+pub command-at : {op op' time time' room room' : ℕ} {payload payload' area area' before before' after : List ℕ} {d : Device} {r : Answer}
+    → Answered (outcome (state-of d) op payload time area room) d r before after → op ≡ op' → payload ≡ payload' → time ≡ time' → area ≡ area' → room ≡ room'
+    → before ≡ before' → Answered (outcome (state-of d) op' payload' time' area' room') d r before' after
+command-at {after = after} {d = d} {r = r} h eo ep et ea er eb =
+    subst (λ (x : Outcome × List ℕ). Answered (x .0) d r (x .1) after) (λ i. (outcome (state-of d) (eo i) (ep i) (et i) (ea i) (er i), eb i)) h
+
+-- the label area after a command, likewise
+pub area-at : (code : ℕ) (area : List ℕ) {op op' : ℕ} {payload payload' after : List ℕ} → after ≡ area-after op payload code area → op ≡ op' → payload ≡ payload'
+    → after ≡ area-after op' payload' code area
+area-at code area h eo ep = h ∙ ap₂ (λ (o : ℕ) (p : List ℕ). area-after o p code area) eo ep
 
 pub event-at : {time time' log log' : ℕ} {bytes bytes' : List ℕ} {d : Device} {r : EventAnswer} → EventDone (event-report (state-of d) time log bytes) d r
     → time ≡ time' → log ≡ log' → bytes ≡ bytes' → EventDone (event-report (state-of d) time' log' bytes') d r

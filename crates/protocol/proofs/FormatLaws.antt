@@ -14,7 +14,7 @@ use Rattle.wire.specs.Wire.{field}
 use Rattle.wire.proofs.Laws.{either, and-parts}
 use Rattle.protocol.specs.declared.formats.Format.{Format}
 use Rattle.protocol.specs.declared.formats.Format.the-variants.{Bench, Probe}
-use Rattle.protocol.specs.Records.{mark-of, NW, CM, EV, MD, LT, ES, DT, RQ, RP, RW, WK, front-fixed, front-head, front-size, OneRecord}
+use Rattle.protocol.specs.Records.{mark-of, NW, CM, EV, MD, LT, ES, DT, RQ, RP, RW, WK, AR, AB, front-fixed, front-head, front-size, OneRecord}
 use Rattle.protocol.specs.Formats.{bench-fixed, bench-size, probe-least, probe-fixed, probe-head, probe-within, probe-rest, probe-size, fixed, head, size, FixedPart, Head, Ready}
 use Rattle.protocol.specs.HostFormats.{within, opcode-of, request-head, knows, request-within, request-rest, RequestRead}
 use Rattle.protocol.proofs.StreamLaws.{field-front}
@@ -27,11 +27,11 @@ pub bench-none : (m : ℕ) → (m ≡ mark-of CM → ⊥) → (m ≡ mark-of EV 
 unfolding bench-fixed
 bench-none m h₁ h₂ h₃ h₄ = rw (ne-eqb m (mark-of CM) h₁, ne-eqb m (mark-of EV) h₂, ne-eqb m (mark-of MD) h₃, ne-eqb m (mark-of LT) h₄) refl
 
--- no mark of `probe` but the eleven
+-- no mark of `probe` but the thirteen
 pub least-none : (m : ℕ) → (m ≡ mark-of NW → ⊥) → (m ≡ mark-of CM → ⊥) → (m ≡ mark-of EV → ⊥) → (m ≡ mark-of MD → ⊥) → (m ≡ mark-of LT → ⊥) → (m ≡ mark-of ES → ⊥) → (m ≡ mark-of DT → ⊥) → (m ≡ mark-of RQ → ⊥) → (m ≡ mark-of RP → ⊥) → (m ≡ mark-of RW → ⊥) → (m ≡ mark-of WK → ⊥)
-    → 0 ≡ probe-least m
+    → (m ≡ mark-of AR → ⊥) → (m ≡ mark-of AB → ⊥) → 0 ≡ probe-least m
 unfolding probe-least
-least-none m h₁ h₂ h₃ h₄ h₅ h₆ h₇ h₈ h₉ h₁₀ h₁₁ =
+least-none m h₁ h₂ h₃ h₄ h₅ h₆ h₇ h₈ h₉ h₁₀ h₁₁ h₁₂ h₁₃ =
     rw (
       ne-eqb m (mark-of NW) h₁,
       ne-eqb m (mark-of CM) h₂,
@@ -44,6 +44,8 @@ least-none m h₁ h₂ h₃ h₄ h₅ h₆ h₇ h₈ h₉ h₁₀ h₁₁ =
       ne-eqb m (mark-of RP) h₉,
       ne-eqb m (mark-of RW) h₁₀,
       ne-eqb m (mark-of WK) h₁₁,
+      ne-eqb m (mark-of AR) h₁₂,
+      ne-eqb m (mark-of AB) h₁₃,
     ) refl
 
 -- the first record of either is a make
@@ -89,7 +91,9 @@ least-good m =
     (either Good (eqb m (mark-of RQ)) (some 7 (lit≤ tt) (lit≤ tt))
     (either Good (eqb m (mark-of RP)) (some 10 (lit≤ tt) (lit≤ tt))
     (either Good (eqb m (mark-of RW)) (some 13 (lit≤ tt) (lit≤ tt))
-    (either Good (eqb m (mark-of WK)) (some 23 (lit≤ tt) (lit≤ tt)) none))))))))))
+    (either Good (eqb m (mark-of WK)) (some 23 (lit≤ tt) (lit≤ tt))
+    (either Good (eqb m (mark-of AR)) (some 6 (lit≤ tt) (lit≤ tt))
+    (either Good (eqb m (mark-of AB)) (some 6 (lit≤ tt) (lit≤ tt)) none))))))))))))
 
 pub fixed-good : (f : Format) (first : Bool) (m : ℕ) → Good (fixed f first m)
 unfolding fixed probe-fixed
@@ -205,6 +209,22 @@ module _ (h : List ℕ) where
   unfolding probe-rest
   walk-rest e = rw e refl
 
+  pub area-within : mark-of h ≡ mark-of AR → probe-within h ≡ leb (field h 2 4) 8192
+  unfolding probe-within
+  area-within e = rw e refl
+
+  pub area-rest : mark-of h ≡ mark-of AR → probe-rest h ≡ 0
+  unfolding probe-rest
+  area-rest e = rw e refl
+
+  pub bytes-within : mark-of h ≡ mark-of AB → probe-within h ≡ leb (field h 2 2 + field h 4 2) 8192
+  unfolding probe-within
+  bytes-within e = rw e refl
+
+  pub bytes-rest : mark-of h ≡ mark-of AB → probe-rest h ≡ 0
+  unfolding probe-rest
+  bytes-rest e = rw e refl
+
   -- a request's, by its opcode
   pub handles-within : opcode-of h ≡ 0x0101 → request-within h ≡ leb (field h 9 2) 1000
   unfolding request-within
@@ -228,9 +248,9 @@ module _ (h : List ℕ) where
 
   -- any other has no size in it
   pub probe-plain : (mark-of h ≡ mark-of CM → ⊥) → (mark-of h ≡ mark-of EV → ⊥) → (mark-of h ≡ mark-of RQ → ⊥) → (mark-of h ≡ mark-of RP → ⊥) → (mark-of h ≡ mark-of RW → ⊥)
-      → (mark-of h ≡ mark-of WK → ⊥) → length h ≡ probe-size h
+      → (mark-of h ≡ mark-of WK → ⊥) → (mark-of h ≡ mark-of AR → ⊥) → (mark-of h ≡ mark-of AB → ⊥) → length h ≡ probe-size h
   unfolding probe-size probe-within probe-rest
-  probe-plain h₁ h₂ h₃ h₄ h₅ h₆ =
+  probe-plain h₁ h₂ h₃ h₄ h₅ h₆ h₇ h₈ =
       sym
       (rw (
         ne-eqb (mark-of h) (mark-of CM) h₁,
@@ -239,6 +259,8 @@ module _ (h : List ℕ) where
         ne-eqb (mark-of h) (mark-of RP) h₄,
         ne-eqb (mark-of h) (mark-of RW) h₅,
         ne-eqb (mark-of h) (mark-of WK) h₆,
+        ne-eqb (mark-of h) (mark-of AR) h₇,
+        ne-eqb (mark-of h) (mark-of AB) h₈,
       ) (add-zero (length h)))
 
 -- ---- records of either
@@ -476,6 +498,21 @@ module _ (first : Bool) (r : List ℕ) (some : 0 < length r) (part : Parts (fixe
       let wide : 23 ≤ n = subst (λ (m : ℕ). probe-least m ≤ n) e least in
       omega (arith, few, same 18 4 (omega arith))
 
+  -- the size that `AR` sets, and the end of the bytes that `AB` asks for
+  area-size : mark-of r ≡ mark-of AR → field r 2 4 ≤ 8192
+  unfolding probe-least
+  area-size e =
+      let few : field h 2 4 ≤ 8192 = leb-true (field h 2 4) 8192 (sym (area-within h (letters ∙ e)) ∙ limits) in
+      let wide : 6 ≤ n = subst (λ (m : ℕ). probe-least m ≤ n) e least in
+      omega (arith, few, same 2 4 (omega arith))
+
+  bytes-end : mark-of r ≡ mark-of AB → field r 2 2 + field r 4 2 ≤ 8192
+  unfolding probe-least
+  bytes-end e =
+      let few : field h 2 2 + field h 4 2 ≤ 8192 = leb-true (field h 2 2 + field h 4 2) 8192 (sym (bytes-within h (letters ∙ e)) ∙ limits) in
+      let wide : 6 ≤ n = subst (λ (m : ℕ). probe-least m ≤ n) e least in
+      omega (arith, few, same 2 2 (omega arith), same 4 2 (omega arith))
+
   -- of another mark than `RQ` the head is the fixed part
   head-fixed : (mark-of r ≡ mark-of RQ → ⊥) → n ≡ fixed Probe first (mark-of r)
   unfolding head
@@ -564,4 +601,6 @@ ready first r this =
       reply = reply-length first r (this .some) part;
       again = again-lengths first r (this .some) part;
       walk = walk-room first r (this .some) part;
+      area = area-size first r (this .some) part;
+      stored = bytes-end first r (this .some) part;
     }

@@ -15,7 +15,7 @@ pub use Rattle.protocol.proofs.RunLaws.{with-used, turn-served, turn-en
 -- Before a loop: nothing found is no record, for good; how many bytes are left.
 pub use Rattle.protocol.proofs.RunLaws.{no-record}
 pub use Rattle.protocol.proofs.StreamLaws.{length-left}
--- A command and an event report at equal arguments; what comes after a record's fixed part; the reply lies in its buffer; a record served, by another name.
-pub use Rattle.protocol.proofs.CallLaws.{command-at, event-at, rest-of, reply-fits, serves-as}
+-- A command, the label area after it and an event report at equal arguments; what comes after a record's fixed part; the reply lies in its buffer; a record served, by another name.
+pub use Rattle.protocol.proofs.CallLaws.{command-at, area-at, event-at, rest-of, reply-fits, serves-as}
 -- What a program prints for some bytes of input, as a function that computes.
 unfoldable pub use Rattle.protocol.proofs.Printed.{printed}

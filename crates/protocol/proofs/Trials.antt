@@ -113,3 +113,18 @@ host-sizes =
 host-records : host-sizes ≡ 8 ∷ 0 ∷ 15 ∷ 0 ∷ 0 ∷ 12 ∷ 0 ∷ 79 ∷ 0 ∷ 0 ∷ 12 ∷ 0 ∷ 0 ∷ 14 ∷ 0 ∷ 23 ∷ 0 ∷ []
 unfolding read host-sizes front-size tells whole fixed head size probe-least probe-fixed probe-head probe-within probe-rest probe-size request-head request-within request-rest field number part
 host-records = refl
+
+-- of the label store's records: AR of 8,192 bytes, of one more, and cut; AB that ends at 8,192, one past it, and of 65,535 and 65,535
+label-sizes : List ℕ
+label-sizes =
+    read Probe false (65 ∷ 82 ∷ 0 ∷ 32 ∷ 0 ∷ 0 ∷ 9 ∷ [])
+    ∷ read Probe false (65 ∷ 82 ∷ 1 ∷ 32 ∷ 0 ∷ 0 ∷ 9 ∷ [])
+    ∷ read Probe false (65 ∷ 82 ∷ 0 ∷ 32 ∷ 0 ∷ [])
+    ∷ read Probe false (65 ∷ 66 ∷ 255 ∷ 31 ∷ 1 ∷ 0 ∷ 9 ∷ [])
+    ∷ read Probe false (65 ∷ 66 ∷ 255 ∷ 31 ∷ 2 ∷ 0 ∷ 9 ∷ [])
+    ∷ read Probe false (65 ∷ 66 ∷ 255 ∷ 255 ∷ 255 ∷ 255 ∷ 9 ∷ [])
+    ∷ []
+
+label-records : label-sizes ≡ 6 ∷ 0 ∷ 0 ∷ 6 ∷ 0 ∷ 0 ∷ []
+unfolding read label-sizes front-size tells whole fixed head size probe-least probe-fixed probe-head probe-within probe-rest probe-size field number part
+label-records = refl

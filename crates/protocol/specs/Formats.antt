@@ -1,4 +1,4 @@
--- The records of the input of each program (document 01, "Bench program"; document 10, "Records of the base" and, of W-202, "Records that a
+-- The records of the input of each program (document 01, "Bench program"; document 10, "Records of the base" and, of W-202 and W-206, "Records that a
 -- request brings"): how long each is. Assumes nothing.
 use Prim.Native.Nat.{ℕ, _+_, _≤_}
 use mathlib.Core.Path.{_≡_}
@@ -9,7 +9,7 @@ use lib.ListN.{length}
 use Rattle.wire.specs.Wire.{field}
 use Rattle.protocol.specs.declared.formats.Format.{Format}
 use Rattle.protocol.specs.declared.formats.Format.the-variants.{Bench, Probe}
-use Rattle.protocol.specs.Records.{mark-of, NW, CM, EV, MD, LT, ES, DT, RQ, RP, RW, WK}
+use Rattle.protocol.specs.Records.{mark-of, NW, CM, EV, MD, LT, ES, DT, RQ, RP, RW, WK, AR, AB}
 use Rattle.protocol.specs.HostFormats.{within, opcode-of, request-head, knows, request-within, request-rest, RequestRead}
 
 -- ---- `bench`, document 01
@@ -33,7 +33,7 @@ bench-size h = cond (eqb (mark-of h) (mark-of CM)) (cond (leb (field h 12 2) 204
 
 -- the bytes of a record's fixed part, by its mark: `NW` volatile 2, persistent 2; `CM` time 8, opcode 2, room 2, fill 1, length 2; `EV` time 8, log 1, length 2;
 -- `MD` time 8, address 8, lines 4, type 1; `LT` address 8; `ES` and `DT` nothing; `RQ` opcode 2, room 2, fill 1; `RP` opcode 2, asked 4, length 2; `RW` opcode 2,
--- asked 4, room 2, fill 1, length 2; `WK` address 8, lines 8, room 4, fill 1. 0: "An unknown mark .. prints `BAD`"
+-- asked 4, room 2, fill 1, length 2; `WK` address 8, lines 8, room 4, fill 1; `AR` size 4; `AB` offset 2, length 2. 0: "An unknown mark .. prints `BAD`"
 unfoldable pub probe-least : ℕ → ℕ
 probe-least m =
     cond (eqb m (mark-of NW)) 6
@@ -46,7 +46,9 @@ probe-least m =
     (cond (eqb m (mark-of RQ)) 7
     (cond (eqb m (mark-of RP)) 10
     (cond (eqb m (mark-of RW)) 13
-    (cond (eqb m (mark-of WK)) 23 0))))))))))
+    (cond (eqb m (mark-of WK)) 23
+    (cond (eqb m (mark-of AR)) 6
+    (cond (eqb m (mark-of AB)) 6 0))))))))))))
 
 -- "The first record must be a make"
 unfoldable pub probe-fixed : Bool → ℕ → ℕ
@@ -59,7 +61,7 @@ unfoldable pub probe-head : List ℕ → ℕ
 probe-head h = cond (eqb (mark-of h) (mark-of RQ)) (cond (within (field h 4 2)) (request-head (opcode-of h)) 0) (length h)
 
 -- whether the sizes in a record's head are within their limits, and its opcode known: "room, payload length and record length at most 4,096 each", "reply length at
--- most 4,096", "room of `WK` at most 65,536"
+-- most 4,096", "room of `WK` at most 65,536", "sizes of `AR` at most 8,192, offset plus length of `AB` at most 8,192"
 unfoldable pub probe-within : List ℕ → Bool
 probe-within h =
     cond (eqb (mark-of h) (mark-of CM)) (within (field h 12 2) && within (field h 15 2))
@@ -67,7 +69,9 @@ probe-within h =
     (cond (eqb (mark-of h) (mark-of RQ)) (request-within h)
     (cond (eqb (mark-of h) (mark-of RP)) (knows (opcode-of h) && within (field h 8 2))
     (cond (eqb (mark-of h) (mark-of RW)) (knows (opcode-of h) && (within (field h 8 2) && within (field h 11 2)))
-    (cond (eqb (mark-of h) (mark-of WK)) (leb (field h 18 4) 65536) true)))))
+    (cond (eqb (mark-of h) (mark-of WK)) (leb (field h 18 4) 65536)
+    (cond (eqb (mark-of h) (mark-of AR)) (leb (field h 2 4) 8192)
+    (cond (eqb (mark-of h) (mark-of AB)) (leb (field h 2 2 + field h 4 2) 8192) true)))))))
 
 -- the bytes after a record's head: a command's payload, an event's record, what a request's fields say, a reply
 unfoldable pub probe-rest : List ℕ → ℕ
@@ -119,3 +123,5 @@ pub record Ready (r : List ℕ) : Type 0 where
   pub reply : mark-of r ≡ mark-of RP → length r ≤ 4106
   pub again : mark-of r ≡ mark-of RW → (field r 8 2 ≤ 4096) × (length r ≤ 4109)
   pub walk : mark-of r ≡ mark-of WK → field r 18 4 ≤ 65536
+  pub area : mark-of r ≡ mark-of AR → field r 2 4 ≤ 8192
+  pub stored : mark-of r ≡ mark-of AB → field r 2 2 + field r 4 2 ≤ 8192

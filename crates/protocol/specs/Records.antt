@@ -46,6 +46,12 @@ RW = 82 ∷ 87 ∷ []
 abbrev pub WK : List ℕ
 WK = 87 ∷ 75 ∷ []
 
+abbrev pub AR : List ℕ
+AR = 65 ∷ 82 ∷ []
+
+abbrev pub AB : List ℕ
+AB = 65 ∷ 66 ∷ []
+
 -- n bytes at the front, or 0 where they are cut
 unfoldable pub whole : ℕ → List ℕ → ℕ
 whole n r = cond (leb n (length r)) n 0

@@ -1,6 +1,7 @@
 // The records of each program (document 01, "Bench program"; document 10, "Records of the base"): how long each is, and the next one brought whole into
-// the input buffer. The sizes of the records of the host library are in `host_formats`.
+// the input buffer. The sizes of the records of the host library are in `host_formats`, those of the label store's records in `label_formats`.
 use crate::host_formats;
+use crate::label_formats;
 use crate::records;
 use crate::records::Found;
 use crate::stream::Stream;
@@ -68,6 +69,8 @@ fn probe_least(mark: u64) -> usize
         0x5250 => 10, // RP
         0x5257 => 13, // RW
         0x574B => 23, // WK
+        0x4152 => 6, // AR
+        0x4142 => 6, // AB
         _ => 0,
     }
 }
@@ -122,6 +125,8 @@ fn probe_size(head: &[u8]) -> usize
         0x5250 => host_formats::reply_size(head), // RP
         0x5257 => host_formats::again_size(head), // RW
         0x574B => host_formats::walk_size(head), // WK
+        0x4152 => label_formats::area_size(head), // AR
+        0x4142 => label_formats::bytes_size(head), // AB
         _ => head.len(),
     }
 }

@@ -3,6 +3,7 @@
 pub mod calls;
 pub mod formats;
 mod host_formats;
+mod label_formats;
 pub mod output;
 pub mod records;
 pub mod stream;

@@ -43,8 +43,9 @@ use denote.Triple.Spec.{Meets, tripleOf}
 use denote.Triple.Table.{entered, cited}
 use denote.Triple.Walked.{says, needs, Stays, stay-ref, stay-none, stay-none-slice, gave-slice, walkOf, AllGo, goes-none, goes-ref, goes-none-slice, goes-gave-slice, Walks, ends-at, walked, walk-meets}
 use denote.Exit.{yes}
+use Rattle.labels.specs.Labels.{label-size}
 use Rattle.mailbox.specs.State.{ValidDevice}
-use Rattle.mailbox.specs.ByParts.{of-list, of-injection, of-log, SettingsAnswered}
+use Rattle.mailbox.specs.ByParts.{of-area, of-list, of-injection, of-log, SettingsAnswered}
 use Rattle.mailbox.specs.Numbers.{most-units}
 use Rattle.mailbox.specs.declared.device.Device.{Device}
 use Rattle.mailbox.proofs.device.Device as DeviceT
@@ -116,7 +117,7 @@ module _ {M : Type 1} (𝓤 : URA M) (H : Heap 𝓤) (A : Atoms 𝓤) (W : Given
   abbrev to-settings-command : C-settings-command 𝓤 H A at-mem run .Ghost
   to-settings-command = (((κ1, (κ2, tt)), (q1, (q2, tt)), tt, (h .volatile, (h .persistent, (h .clock, (h .policy, (opcode, (payload-ref, (time, (reply-ref, tt)))))))), (vint w16 (h .volatile) ∷ [], (vint w16 (h .persistent) ∷ [], (LL.val ClockT.the-type ClockL.the-laws (h .clock) ∷ [], (arrayVal (map (λ (e : ℕ). vint w8 e) (map (λ (e : ℕ). e) (h .policy))) ∷ [], (vint w16 opcode ∷ [], (payload-val ∷ [], (vint w64 time ∷ [], (reply-val ∷ [], tt))))))))), tt)
 
-  goes-settings-command : ((1 ≤ (h .volatile) + (h .persistent)) × ((h .volatile) + (h .persistent) ≤ most-units) × (of-list opcode ≡ false) × (of-injection opcode ≡ false) × (of-log opcode ≡ false)) → Is u16 (h .volatile) (vint w16 (h .volatile) ∷ []) → Is u16 (h .persistent) (vint w16 (h .persistent) ∷ []) → Is ClockT.the-row (h .clock) (LL.val ClockT.the-type ClockL.the-laws (h .clock) ∷ []) → Is (Array u8 5) (h .policy) (arrayVal (map (λ (e : ℕ). vint w8 e) (map (λ (e : ℕ). e) (h .policy))) ∷ []) → ent 𝓤 (⋆ 𝓤 H A (‵ (ShrSlice (named 0) κ1 u8 .own payload-ref (payload-val ∷ [])) ∷ ‵ (MutSlice (named 1) κ2 u8 .own reply-ref (reply-val ∷ [])) ∷ ‵ (flft κ1 q1) ∷ ‵ (flft κ2 q2) ∷ ‵ ftrue ∷ [])) (C-settings-command 𝓤 H A at-mem run .pre to-settings-command)
+  goes-settings-command : ((1 ≤ (h .volatile) + (h .persistent)) × ((h .volatile) + (h .persistent) ≤ most-units) × (of-area opcode label-size ≡ false) × (of-list opcode ≡ false) × (of-injection opcode ≡ false) × (of-log opcode ≡ false)) → Is u16 (h .volatile) (vint w16 (h .volatile) ∷ []) → Is u16 (h .persistent) (vint w16 (h .persistent) ∷ []) → Is ClockT.the-row (h .clock) (LL.val ClockT.the-type ClockL.the-laws (h .clock) ∷ []) → Is (Array u8 5) (h .policy) (arrayVal (map (λ (e : ℕ). vint w8 e) (map (λ (e : ℕ). e) (h .policy))) ∷ []) → ent 𝓤 (⋆ 𝓤 H A (‵ (ShrSlice (named 0) κ1 u8 .own payload-ref (payload-val ∷ [])) ∷ ‵ (MutSlice (named 1) κ2 u8 .own reply-ref (reply-val ∷ [])) ∷ ‵ (flft κ1 q1) ∷ ‵ (flft κ2 q2) ∷ ‵ ftrue ∷ [])) (C-settings-command 𝓤 H A at-mem run .pre to-settings-command)
   goes-settings-command ok is-4 is-3 is-2 is-1 = qed W (‵ (ShrSlice (named 0) κ1 u8 .own payload-ref (payload-val ∷ [])) ∷ ‵ (MutSlice (named 1) κ2 u8 .own reply-ref (reply-val ∷ [])) ∷ ‵ (flft κ1 q1) ∷ ‵ (flft κ2 q2) ∷ ‵ ftrue ∷ []) ∵ says ! ok $ nothing ! $ move ! (2 ∷ 0 ∷ []) $ fjoin ! $ owned ! u64 (Is u64) (uint-makes 𝓤 H A W w64) time _ (refl, time-fits) $ fjoin ! $ move ! (1 ∷ 0 ∷ []) $ fjoin ! $ owned ! u16 (Is u16) (uint-makes 𝓤 H A W w16) opcode _ (refl, opcode-fits) $ fjoin ! $ owned ! (Array u8 5) (Is (Array u8 5)) (array-makes 𝓤 H A W u8 (uint-makes 𝓤 H A W w8) 5) (h .policy) _ is-1 $ fjoin ! $ owned ! ClockT.the-row (Is ClockT.the-row) ((LL.makes ClockT.the-type ClockL.the-plain) 𝓤 H A) (h .clock) _ is-2 $ fjoin ! $ owned ! u16 (Is u16) (uint-makes 𝓤 H A W w16) (h .persistent) _ is-3 $ fjoin ! $ owned ! u16 (Is u16) (uint-makes 𝓤 H A W w16) (h .volatile) _ is-4 $ fjoin ! $ move ! (1 ∷ 2 ∷ 3 ∷ 0 ∷ []) $ group ! 3 $ join ! $ done !
 
   -- what the contract ensures of the answer r, of the device d behind the pointer and of the last lists
@@ -128,7 +129,7 @@ module _ {M : Type 1} (𝓤 : URA M) (H : Heap 𝓤) (A : Atoms 𝓤) (W : Given
   exits r d reply-last v e long-reply is = qed W (‵ (fobs γ (DeviceT.the-row .coded .code d)) ∷ ‵ (fbor κ0 (Body (mem DeviceT.the-row) b o γ)) ∷ ‵ (flft κ0 q0) ∷ ‵ (flft κ1 q1) ∷ ‵ (flft κ2 q2) ∷ ‵ (finally u8 reply-γ reply-last) ∷ ‵ (ShrSlice (named 1) κ1 u8 .own payload-ref (payload-val ∷ [])) ∷ []) ∵ suffices ! _ (ends-at 𝓤 H A f.ended stayed (f.clauses 𝓤 H A at-mem run) W (((κ0, (κ1, (κ2, tt))), (q0, (q1, (q2, tt))), tt, x, at), tt) v r (d, (tt, (tt, (tt, (reply-last, tt))))) (tt, (tt, (tt, (tt, (long-reply, tt)))))) $ holds ! e $ nothing ! $ move ! (3 ∷ 4 ∷ 5 ∷ 0 ∷ []) $ group ! 4 $ frame ! $ nothing ! $ move ! (3 ∷ 0 ∷ []) $ fjoin ! $ owned ! u64 (Is u64) (uint-makes 𝓤 H A W w64) time _ (refl, time-fits) $ fjoin ! $ move ! (3 ∷ 0 ∷ []) $ fjoin ! $ owned ! u16 (Is u16) (uint-makes 𝓤 H A W w16) opcode _ (refl, opcode-fits) $ fjoin ! $ move ! (1 ∷ 2 ∷ 0 ∷ []) $ feqI ! (List Val) (vptr b o ∷ []) (vptr b o ∷ []) refl $ fjoin3 ! $ fjoin ! $ frame ! $ owned ! DoneT.the-row (Is DoneT.the-row) ((LL.makes DoneT.the-type DoneL.the-plain) 𝓤 H A) r _ is $ done !
 
   module _ (C : Calls 𝓤 H) (Λ : Loops 𝓤 H) (fm : FmC 𝓤 H (W .laws) C) (k-settings-command : Triple 𝓤 (C #g-settings-command) (C-settings-command 𝓤 H A at-mem run)) where
-    walk : (ValidDevice h × (of-list opcode ≡ false) × (of-injection opcode ≡ false) × (of-log opcode ≡ false)) → ent 𝓤 (onEntry 𝓤 H A f.signature (κ0, (κ1, (κ2, tt))) (q0, (q1, (q2, tt))) x at) (WpFn 𝓤 H C Λ code.function (vptr b o ∷ vint w16 opcode ∷ payload-val ∷ vint w64 time ∷ reply-val ∷ []) Post)
+    walk : (ValidDevice h × (of-area opcode label-size ≡ false) × (of-list opcode ≡ false) × (of-injection opcode ≡ false) × (of-log opcode ≡ false)) → ent 𝓤 (onEntry 𝓤 H A f.signature (κ0, (κ1, (κ2, tt))) (q0, (q1, (q2, tt))) x at) (WpFn 𝓤 H C Λ code.function (vptr b o ∷ vint w16 opcode ∷ payload-val ∷ vint w64 time ∷ reply-val ∷ []) Post)
     walk valid =
         qed W ((‵ (flft κ0 q0) ⊛ ‵ (flft κ1 q1) ⊛ ‵ (flft κ2 q2) ⊛ ‵ ftrue) ∷ ‵ (owns (MutRef (named 0) κ0 DeviceT.the-row ∷ u16 ∷ ShrSlice (named 1) κ1 u8 ∷ u64 ∷ MutSlice (named 2) κ2 u8 ∷ []) x at) ∷ []) ∵ split ! $ move ! (1 ∷ []) $ split ! $ move ! (1 ∷ []) $ split ! $ move ! (1 ∷ []) $ drop ! $ move ! (3 ∷ []) $ fsplit ! $ fsplit3 ! $ drop ! $ move ! (2 ∷ []) $ fsplit ! $ drop ! $ move ! (0 ∷ []) $ fsplit ! $ move ! (1 ∷ []) $ fsplit ! $ drop ! $ move ! (0 ∷ []) $ fsplit ! $ move ! (1 ∷ []) $ drop ! $
         enter ! C Λ code.function (vptr b o ∷ vint w16 opcode ∷ payload-val ∷ vint w64 time ∷ reply-val ∷ []) _ $
@@ -175,7 +176,7 @@ module _ {M : Type 1} (𝓤 : URA M) (H : Heap 𝓤) (A : Atoms 𝓤) (W : Given
 module _ {M : Type 1} (𝓤 : URA M) (H : Heap 𝓤) (A : Atoms 𝓤) (W : Given 𝓤 H A) (at-mem : Memory → SProp 𝓤) (run : Routine → Fun 𝓤) where
   walks : (C : Calls 𝓤 H) (Λ : Loops 𝓤 H) → FmC 𝓤 H (W .laws) C → Triple 𝓤 (C #g-settings-command) (C-settings-command 𝓤 H A at-mem run) → Walks 𝓤 H A f.ended stayed (WpFn 𝓤 H C Λ code.function) (f.clauses 𝓤 H A at-mem run)
   walks C Λ fm k-settings-command = walked 𝓤 H A f.ended stayed (f.clauses 𝓤 H A at-mem run) (WpFn 𝓤 H C Λ code.function) (λ κs. (ptr-vals, (uint-vals w16, (slice-vals, (uint-vals w64, (slice-vals, tt)))))) (λ κs. (mut-tells (named 0) (κs .0) DeviceT.the-row, (uint-tells w16, (shr-slice-tells (named 1) (κs .1 .0) u8, (uint-tells w64, (mut-slice-tells (named 2) (κs .1 .1 .0) u8, tt))))))
-      (λ κs qs bounds a _ are. needs 𝓤 (ValidDevice (a .0 .now) × (of-list (a .1 .0) ≡ false) × (of-injection (a .1 .0) ≡ false) × (of-log (a .1 .0) ≡ false)) _ (walk 𝓤 H A W at-mem run (κs .0) (κs .1 .0) (κs .1 .1 .0) (qs .0) (qs .1 .0) (qs .1 .1 .0) (a .0 .ptr .0) (a .0 .ptr .1) (a .0 .name) (a .0 .now) (a .1 .0) (are .1 .0 .1) (a .1 .1 .0 .ptr .0) (a .1 .1 .0 .ptr .1) (a .1 .1 .0 .name) (a .1 .1 .0 .now) (are .1 .1 .0 .0 .1) (a .1 .1 .1 .0) (are .1 .1 .1 .0 .1) (a .1 .1 .1 .1 .0 .ptr .0) (a .1 .1 .1 .1 .0 .ptr .1) (a .1 .1 .1 .1 .0 .name) (a .1 .1 .1 .1 .0 .now) (are .1 .1 .1 .1 .0 .0 .1) C Λ fm k-settings-command))
+      (λ κs qs bounds a _ are. needs 𝓤 (ValidDevice (a .0 .now) × (of-area (a .1 .0) label-size ≡ false) × (of-list (a .1 .0) ≡ false) × (of-injection (a .1 .0) ≡ false) × (of-log (a .1 .0) ≡ false)) _ (walk 𝓤 H A W at-mem run (κs .0) (κs .1 .0) (κs .1 .1 .0) (qs .0) (qs .1 .0) (qs .1 .1 .0) (a .0 .ptr .0) (a .0 .ptr .1) (a .0 .name) (a .0 .now) (a .1 .0) (are .1 .0 .1) (a .1 .1 .0 .ptr .0) (a .1 .1 .0 .ptr .1) (a .1 .1 .0 .name) (a .1 .1 .0 .now) (are .1 .1 .0 .0 .1) (a .1 .1 .1 .0) (are .1 .1 .1 .0 .1) (a .1 .1 .1 .1 .0 .ptr .0) (a .1 .1 .1 .1 .0 .ptr .1) (a .1 .1 .1 .1 .0 .name) (a .1 .1 .1 .1 .0 .now) (are .1 .1 .1 .1 .0 .0 .1) C Λ fm k-settings-command))
 
   all-go : AllGo 𝓤 H A W 3 (f.signature .params) (f.ended .kept) stayed
   all-go = (goes-ref 𝓤 H A W 3 0 tt (plain (λ _. DeviceT.the-row)), (goes-none 𝓤 H A W 3 (λ _. u16) yes (λ κs x f. refl), (goes-none-slice 𝓤 H A W 3 (1 ∷ []) tt (plain (λ _. u8)) yes, (goes-none 𝓤 H A W 3 (λ _. u64) yes (λ κs x f. refl), (goes-gave-slice 𝓤 H A W 3 2 tt (plain (λ _. u8)), tt)))))

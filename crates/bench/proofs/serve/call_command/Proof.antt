@@ -2,7 +2,7 @@
 -- Assumes nothing.
 use mathlib.Core.Path.{refl}
 use borrow.Author.Needs.{needs}
-use Rattle.protocol.proofs.Laws.{command-at, rest-of}
+use Rattle.protocol.proofs.Laws.{command-at, area-at, rest-of}
 use Rattle.bench.proofs.serve.call_command.Statement.{statement}
 use Rattle.bench.proofs.serve.call_command.Tie as tie
 
@@ -30,11 +30,17 @@ command-requires c κs = search needs
 same-length : tie.Need-same-length
 same-length c = search needs
 
+same-length-2 : tie.Need-same-length-2
+same-length-2 c = search needs
+
 returns : tie.Need-returns
 returns c =
-    let s = c .before .before .before .before .before .before .before .before .before in
+    let s = c .before .before .before .before .before .before .before .before .before .before .before .before .before in
     let bytes = s .args .bytes .now in
-    command-at (c .before .before .command .ensures) (c .before .before .before .before .before .get2 .ensures .value) (rest-of 14 bytes) (c .before .before .before .before .before .before .get .ensures .value) (s .pre .2) refl
+    let told = c .before .before .before .before .command in
+    let op = c .before .before .before .before .before .before .before .before .get2 .ensures .value in
+    let time = c .before .before .before .before .before .before .before .before .before .get .ensures .value in
+    (command-at (told .ensures .0) op (rest-of 14 bytes) time refl (s .pre .2) refl, area-at (told .result .code) (s .args .area .now) (told .ensures .1) op (rest-of 14 bytes))
 
 pub call-command-spec : {M : Type 1} → statement M
 call-command-spec =
@@ -48,4 +54,5 @@ call-command-spec =
     part-command-end
     command-requires
     same-length
+    same-length-2
     returns)

@@ -19,7 +19,7 @@ use Rattle.bench.proofs.serve.run.Tie as tie
 
 -- the input buffer keeps its length
 long : (k : tie.After-next) → length (k .next .last .1 .1 .0) ≡ 65536
-long k = omega (arith, k .next .kept, k .before .before .before .before .before .before .before .pre .0)
+long k = omega (arith, k .next .kept, k .before .before .before .before .before .before .before .before .pre .0)
 
 -- the places passed where a record was found: the stream made, and what was found
 abbrev opened : tie.After-past → tie.After-new
@@ -47,7 +47,7 @@ new-requires : tie.Need-new-requires
 new-requires c κs = search needs
 
 next-requires : tie.Need-next-requires
-next-requires c κs = (unread-fits (c .before .before .new .ensures), c .before .before .before .before .before .before .pre .0, c .before .before .before .before .before .before .pre .1)
+next-requires c κs = (unread-fits (c .before .before .new .ensures), c .before .before .before .before .before .before .before .pre .0, c .before .before .before .before .before .before .before .pre .1)
 
 sub-stop : tie.Need-sub-stop
 sub-stop c = search needs
@@ -64,7 +64,7 @@ same-length-2 c = search needs
 returns : tie.Need-returns
 returns c =
     let told = c .before .before .stop .ensures in (
-      omega (arith, told .room, c .before .before .before .before .before .before .before .before .before .before .before .before .before .before .before .before .before .pre .1),
+      omega (arith, told .room, c .before .before .before .before .before .before .before .before .before .before .before .before .before .before .before .before .before .before .pre .1),
       run-unmade (c .before .before .before .before .before .before .before .before .before .before .before .before .before .new .result) (c .before .before .before .before .before .before .before .before .before .before .next .result) (at-start (c .before .before .before .before .before .before .before .before .before .before .before .before .before .new .ensures)) (c .before .before .before .before .before .before .before .before .before .before .next .ensures) (c .before .before .before .before .before .if1 .taken) (long (c .before .before .before .before .before .before .before .before .before .before)) told,
     )
 
@@ -91,7 +91,7 @@ part-begin-end c =
 begin-requires : tie.Need-begin-requires
 begin-requires c κs =
     let k = c .before .before .before in
-    (new-long (opened k .new .result .offset) (bytes k) (at-start (opened k .new .ensures)) (this k), omega (arith, c .before .before .before .before .before .before .before .before .before .before .before .before .before .before .before .before .pre .1))
+    (new-long (opened k .new .result .offset) (bytes k) (at-start (opened k .new .ensures)) (this k), omega (arith, c .before .before .before .before .before .before .before .before .before .before .before .before .before .before .before .before .before .pre .1))
 
 same-length-3 : tie.Need-same-length-3
 same-length-3 c = search needs
@@ -103,49 +103,52 @@ returns-2 : tie.Need-returns-2
 returns-2 c =
     let k = c .before .before .before .before .before .before .before .before in
     let begun = c .before .before .before .before .begin .ensures in (
-      omega (arith, begun .line .room, c .before .before .before .before .before .before .before .before .before .before .before .before .before .before .before .before .before .before .before .before .before .pre .1),
+      omega (arith, begun .line .room, c .before .before .before .before .before .before .before .before .before .before .before .before .before .before .before .before .before .before .before .before .before .before .pre .1),
       run-refused (opened k .new .result .offset) (bytes k) (c .before .before .before .before .begin .result .code) (at-start (opened k .new .ensures)) (this k) (begun .number) (c .if2 .taken) (begun .line),
     )
 
 serve-requires : tie.Need-serve-requires
 serve-requires c κs =
-    let k = c .before .before .before .before .before .before .before .before .before .before .before .before in
-    let begun = c .before .before .before .before .before .before .before .before .begin in
+    let k = c .before .before .before .before .before .before .before .before .before .before .before .before .before in
+    let begun = c .before .before .before .before .before .before .before .before .before .begin in
     let found = looked k .next .ensures in
     let p = k .past .ensures in
-    let given = c .before .before .before .before .before .before .before .before .before .before .before .before .before .before .before .before .before .before .before .before .before .before .before .before .before .pre in (
+    let given = c .before .before .before .before .before .before .before .before .before .before .before .before .before .before .before .before .before .before .before .before .before .before .before .before .before .before .before .pre in (
       begun .ensures .valid,
       record {
         order = omega (arith, p .at, p .end, found .inside, found .same .fits .order);
         input = omega (arith, p .end, found .same .fits .input);
         output = omega (arith, begun .ensures .line .room, given .1);
       },
-      omega (arith, p .offset, c .before .before .before .before .before .before .before .before .before .before .before .before .before .if1 .left),
+      omega (arith, p .offset, c .before .before .before .before .before .before .before .before .before .before .before .before .before .before .if1 .left),
       long (looked k),
       omega (arith, begun .kept, given .1),
       given .2,
     )
 
 same-length-5 : tie.Need-same-length-5
-same-length-5 c = omega (arith, c .before .before .before .before .before .before .serve .kept, long (c .before .before .before .before .before .before .before .before .before .before .before .before .before .before .before .before .before .before .before .before .before .before .before .before .before), c .before .before .before .before .before .before .before .before .before .before .before .before .before .before .before .before .before .before .before .before .before .before .before .before .before .before .before .before .before .before .before .before .pre .0)
+same-length-5 c = omega (arith, c .before .before .before .before .before .before .before .before .serve .kept, long (c .before .before .before .before .before .before .before .before .before .before .before .before .before .before .before .before .before .before .before .before .before .before .before .before .before .before .before .before), c .before .before .before .before .before .before .before .before .before .before .before .before .before .before .before .before .before .before .before .before .before .before .before .before .before .before .before .before .before .before .before .before .before .before .before .before .pre .0)
 
 same-length-6 : tie.Need-same-length-6
-same-length-6 c = omega (arith, c .before .before .before .before .before .before .serve .kept, c .before .before .before .before .before .before .before .before .before .before .before .before .before .before .before .begin .kept)
+same-length-6 c = omega (arith, c .before .before .before .before .before .before .before .before .serve .kept, c .before .before .before .before .before .before .before .before .before .before .before .before .before .before .before .before .before .before .begin .kept)
 
 same-length-7 : tie.Need-same-length-7
-same-length-7 c = omega (arith, c .before .before .before .before .before .before .serve .kept)
+same-length-7 c = omega (arith, c .before .before .before .before .before .before .before .before .serve .kept)
+
+same-length-8 : tie.Need-same-length-8
+same-length-8 c = omega (arith, c .before .before .before .before .before .before .before .before .serve .kept)
 
 returns-3 : tie.Need-returns-3
 returns-3 c =
-    let k = c .before .before .before .before .before .before .before .before .before .before .before .before .before .before .before .before .before .before .before in
-    let served = c .before .before .before .before .before .before .serve .ensures in
-    let begun = c .before .before .before .before .before .before .before .before .before .before .before .before .before .before .before .begin in
+    let k = c .before .before .before .before .before .before .before .before .before .before .before .before .before .before .before .before .before .before .before .before .before .before in
+    let served = c .before .before .before .before .before .before .before .before .serve .ensures in
+    let begun = c .before .before .before .before .before .before .before .before .before .before .before .before .before .before .before .before .before .before .begin in
     let found = looked k .next in
     let taken = length-taken (found .result .stream) (k .past .result) (found .last .1 .1 .0) (found .ensures .same .fits) (found .ensures .inside) (long (looked k)) (k .past .ensures) in
     let start = at-start (opened k .new .ensures) in (
       served .0,
       run-made (opened k .new .result .offset) (bytes k) (begun .result .code) start (this k) (begun .ensures .number) _ (with-used (k .past .result) (begun .result .used)) (found .last .1 .1 .0)
-          (c .before .before .before .before .before .before .before .before .before .before .before .if2 .left) (begun .ensures .next) (omega (arith, taken, k .past .ensures .offset, found .ensures .same .place, start)) (begun .ensures .line) (served .1),
+          (c .before .before .before .before .before .before .before .before .before .before .before .before .before .before .if2 .left) (begun .ensures .next) (c .before .before .before .before .before .before .before .before .before .before .before .before .before .before .before .before .before .before .before .before .before .before .before .before .before .before .before .before .before .before .before .before .before .before .before .before .pre .3) (omega (arith, taken, k .past .ensures .offset, found .ensures .same .place, start)) (begun .ensures .line) (served .1),
     )
 
 pub run-spec : {M : Type 1} → statement M
@@ -171,4 +174,5 @@ run-spec =
     same-length-5
     same-length-6
     same-length-7
+    same-length-8
     returns-3)

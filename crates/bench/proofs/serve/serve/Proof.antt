@@ -1,4 +1,4 @@
--- `bench::serve::serve` meets its contract. The invariant: the three buffers keep their lengths, the device is valid, the stream's places lie in the
+-- `bench::serve::serve` meets its contract. The invariant: the buffers and the label area keep their lengths, the device is valid, the stream's places lie in the
 -- buffers, and where the program is now is a run away from where it began. The measure is what is left of the offsets. Assumes nothing.
 use mathlib.Core.Path.{_≡_, refl, sym, _∙_}
 use mathlib.Core.List.{List}
@@ -7,28 +7,28 @@ use native.Mathlib.Omega.{arith}
 use lib.Dec.{eqb}
 use lib.ListN.{length, take, drop}
 use Rattle.mailbox.specs.declared.device.Device.{Device}
-use Rattle.mailbox.specs.State.{ValidDevice, state-of}
+use Rattle.mailbox.specs.State.{ValidDevice}
 use Rattle.protocol.specs.Stream.{Fits}
 use Rattle.protocol.specs.Records.{mark-of, OneRecord}
 use Rattle.protocol.specs.Runs.{reading, machine-of, Steps}
 use Rattle.protocol.specs.Runs.Steps.{stay}
-use Rattle.protocol.specs.Contracts.{Serves}
-use Rattle.protocol.proofs.Laws.{serves-as, sized, local-front, mark-there, one-record, with-used, turn-served, turn-ends, run-far}
+use Rattle.protocol.proofs.Laws.{sized, local-front, mark-there, one-record, with-used, turn-served, turn-ends, run-far}
 use Rattle.protocol.specs.declared.formats.Format.the-variants.{Bench}
 use Rattle.protocol.specs.Formats.{fixed, head, size}
-use Rattle.bench.specs.Calls.{serve-record, bench}
+use Rattle.bench.specs.Calls.{Kept, serve-record, bench}
+use Rattle.bench.specs.Contracts.{kept-of, Leaves}
 use Rattle.bench.proofs.RecordLaws.{command-long, event-long, media-long, line-long, marked}
-use Rattle.bench.proofs.CallLaws.{event-served, line-stays, by-command, by-event, by-media, by-line}
+use Rattle.bench.proofs.CallLaws.{event-served, line-stays, area-kept, leaves-as, by-command, by-event, by-media, by-line}
 use Rattle.bench.proofs.serve.serve.Statement.{statement}
 use Rattle.bench.proofs.serve.serve.Tie as tie
 
 abbrev Inv-loop : tie.InvT-loop
-Inv-loop input₀ out₀ reply₀ device₀ s₀ input out reply device s =
+Inv-loop input₀ out₀ area₀ reply₀ device₀ s₀ input out area reply device s =
     (length input ≡ 65536) × (length out ≡ 65536) × (length reply ≡ 2048) × ValidDevice device × Fits s × (0 < s .offset)
-    × Steps bench (machine-of (state-of device₀) s₀ input₀ out₀) (machine-of (state-of device) s input out)
+    × Steps bench (machine-of (kept-of device₀ area₀) s₀ input₀ out₀) (machine-of (kept-of device area) s input out) × (length area ≡ length area₀)
 
 abbrev μ-loop : tie.MeasureT-loop
-μ-loop input₀ out₀ reply₀ device₀ s₀ input out reply device s = 9223372036854775808 - s .offset
+μ-loop input₀ out₀ area₀ reply₀ device₀ s₀ input out area reply device s = 9223372036854775808 - s .offset
 
 -- the input buffer keeps its length, and the line has room
 long : (k : tie.After-next Inv-loop μ-loop) → length (k .next .last .1 .1 .0) ≡ 65536
@@ -42,7 +42,7 @@ abbrev at-loop : tie.After-past Inv-loop μ-loop → tie.At-loop Inv-loop μ-loo
 at-loop k = k .before .before .before .before .before .before .before .before .before .before .before .before .before
 
 abbrev began : tie.After-past Inv-loop μ-loop → tie.Start Inv-loop μ-loop
-began k = k .before .before .before .before .before .before .before .before .before .before .before .before .before .before .before .before .before
+began k = k .before .before .before .before .before .before .before .before .before .before .before .before .before .before .before .before .before .before
 
 abbrev looked : tie.After-past Inv-loop μ-loop → tie.After-next Inv-loop μ-loop
 looked k = k .before .before .before .before .before .before .before .before
@@ -88,23 +88,27 @@ known k =
     marked (l .s .offset) (bytes p) (l .inv .5) (this p)
     (λ e. other .0 .0 .0 .1 (seen ∙ e)) (λ e. other .0 .0 .1 (seen ∙ e)) (λ e. other .0 .1 (seen ∙ e)) (λ e. other .1 (seen ∙ e))
 
+-- the device and the label area that the record finds
+abbrev held : tie.After-past Inv-loop μ-loop → Kept
+held k = kept-of (at-loop k .loop .device) (at-loop k .loop .area)
+
 -- a record served is a step of the run
 again :
-    (k : tie.After-past Inv-loop μ-loop) {device : Device} {used : ℕ} {out : List ℕ}
-    → Serves (serve-record (state-of (at-loop k .loop .device)) (bytes k)) (roomed k .make-room .result) (record { used = used; device = device }) (at-loop k .loop .out) out
+    (k : tie.After-past Inv-loop μ-loop) {device : Device} {used : ℕ} {area out : List ℕ}
+    → Leaves (serve-record (held k) (bytes k)) (roomed k .make-room .result) (record { used = used; device = device }) area (at-loop k .loop .out) out
     → Fits (with-used (k .past .result) used)
-    × Steps bench (machine-of (state-of (began k .args .made)) (began k .args .start) (began k .args .input .now) (began k .args .out .now))
-    (machine-of (state-of device) (with-used (k .past .result) used) (looked k .next .last .1 .1 .0) out)
+    × Steps bench (machine-of (kept-of (began k .args .made) (began k .args .area .now)) (began k .args .start) (began k .args .input .now) (began k .args .out .now))
+    (machine-of (kept-of device area) (with-used (k .past .result) used) (looked k .next .last .1 .1 .0) out)
 again k served =
     let l = at-loop k .loop in
-    turn-served bench (state-of (l .device)) (l .s) (looked k .next .result) (l .out) 4200 (roomed k .make-room .result) (l .inv .6)
+    turn-served bench (held k) (l .s) (looked k .next .result) (l .out) 4200 (roomed k .make-room .result) (l .inv .6)
     (looked k .next .ensures) (roomed k .make-room .ensures .0) (long (looked k)) (k .past .result) (k .past .ensures) (this k) (served .next)
     (served .line) (omega (arith, roomy (roomed k))) (l .inv .1)
 
 loop-holds : tie.Need-loop-holds Inv-loop μ-loop
 loop-holds c =
-    let given = c .before .before .before .pre in
-    (given .3, given .4, given .5, given .0, given .1, given .2, stay)
+    let given = c .before .before .before .before .pre in
+    (given .3, given .4, given .5, given .0, given .1, given .2, stay, refl)
 
 next-requires : tie.Need-next-requires Inv-loop μ-loop
 next-requires c κs =
@@ -121,18 +125,21 @@ stop-requires : tie.Need-stop-requires Inv-loop μ-loop
 stop-requires c κs = omega (arith, roomy (c .before .before .before .before))
 
 same-length : tie.Need-same-length Inv-loop μ-loop
-same-length c = omega (arith, long (c .before .before .before .before .before .before .before .before .before .before .before .before), c .before .before .before .before .before .before .before .before .before .before .before .before .before .before .before .before .before .before .before .before .before .pre .3)
+same-length c = omega (arith, long (c .before .before .before .before .before .before .before .before .before .before .before .before), c .before .before .before .before .before .before .before .before .before .before .before .before .before .before .before .before .before .before .before .before .before .before .pre .3)
 
 same-length-2 : tie.Need-same-length-2 Inv-loop μ-loop
-same-length-2 c = omega (arith, c .before .before .stop .kept, c .before .before .before .before .before .before .before .before .before .before .before .before .before .before .before .before .before .loop .inv .1, c .before .before .before .before .before .before .before .before .before .before .before .before .before .before .before .before .before .before .before .before .before .pre .4)
+same-length-2 c = omega (arith, c .before .before .stop .kept, c .before .before .before .before .before .before .before .before .before .before .before .before .before .before .before .before .before .loop .inv .1, c .before .before .before .before .before .before .before .before .before .before .before .before .before .before .before .before .before .before .before .before .before .before .pre .4)
 
 same-length-3 : tie.Need-same-length-3 Inv-loop μ-loop
-same-length-3 c = omega (arith, c .before .before .before .before .before .before .before .before .before .before .before .before .before .before .before .before .before .loop .inv .2, c .before .before .before .before .before .before .before .before .before .before .before .before .before .before .before .before .before .before .before .before .before .pre .5)
+same-length-3 c = c .before .before .before .before .before .before .before .before .before .before .before .before .before .before .before .before .before .loop .inv .7
+
+same-length-4 : tie.Need-same-length-4 Inv-loop μ-loop
+same-length-4 c = omega (arith, c .before .before .before .before .before .before .before .before .before .before .before .before .before .before .before .before .before .loop .inv .2, c .before .before .before .before .before .before .before .before .before .before .before .before .before .before .before .before .before .before .before .before .before .before .pre .5)
 
 returns : tie.Need-returns Inv-loop μ-loop
 returns c =
     let l = c .before .before .before .before .before .before .before .before .before .before .before .before .before .before .before .before .before .loop in
-    turn-ends bench (state-of (l .device)) (l .s) (c .before .before .before .before .before .before .before .before .before .before .before .before .next .result) (l .out) 4200 (c .before .before .before .before .before .before .before .make-room .result) (l .inv .6) (c .before .before .before .before .before .before .before .before .before .before .before .before .next .ensures)
+    turn-ends bench (kept-of (l .device) (l .area)) (l .s) (c .before .before .before .before .before .before .before .before .before .before .before .before .next .result) (l .out) 4200 (c .before .before .before .before .before .before .before .make-room .result) (l .inv .6) (c .before .before .before .before .before .before .before .before .before .before .before .before .next .ensures)
     (c .before .before .before .before .before .before .before .make-room .ensures .0) (long (c .before .before .before .before .before .before .before .before .before .before .before .before)) (c .before .before .before .before .before .if2 .taken) (c .before .before .before .before .before .before .before .before .before .before .before .before .before .before .before .if1 .taken) refl (c .before .before .stop .ensures)
     (omega (arith, roomy (c .before .before .before .before .before .before .before))) (l .inv .1)
 
@@ -169,10 +176,10 @@ part-command-end c = inside (c .before .before .before .before .before)
 
 command-requires : tie.Need-command-requires Inv-loop μ-loop
 command-requires c κs =
-    let k = c .before .before .before .before .before .before .before .before in
+    let k = c .before .before .before .before .before .before .before .before .before in
     let l = at-loop k .loop in (
       l .inv .3,
-      command-long (l .s .offset) (bytes k) (l .inv .5) (this k) (named (c .before .before .before .before .before) 17229 (c .before .before .before .before .match .keys1)),
+      command-long (l .s .offset) (bytes k) (l .inv .5) (this k) (named (c .before .before .before .before .before .before) 17229 (c .before .before .before .before .before .match .keys1)),
       l .inv .2,
       roomy (roomed k),
     )
@@ -226,14 +233,14 @@ line-requires c κs =
     (l .inv .3, line-long (l .s .offset) (bytes k) (l .inv .5) (this k) (named (c .before .before .before .before) 19540 (c .before .before .before .match .keys4)), roomy (roomed k))
 
 loop-less : tie.Need-loop-less Inv-loop μ-loop
-loop-less c = less (c .before .before .before .before .before .before .before .before .before .before .before .before .before .before)
+loop-less c = less (c .before .before .before .before .before .before .before .before .before .before .before .before .before .before .before .before .before)
 
 loop-again : tie.Need-loop-again Inv-loop μ-loop
 loop-again c =
-    let k = c .before .before .before .before .before .before .before .before .before .before .before .before .before .before in
+    let k = c .before .before .before .before .before .before .before .before .before .before .before .before .before .before .before .before .before in
     let l = at-loop k .loop in
-    let call = c .before .before .before .before .before .command in
-    let turn = again k (serves-as (call .ensures) (by-command (state-of (l .device)) (bytes k) (named (c .before .before .before .before .before .before .before .before .before .before .before) 17229 (c .before .before .before .before .before .before .before .before .before .before .match .keys1)))) in (
+    let call = c .before .before .before .before .before .before .before .command in
+    let turn = again k (leaves-as (call .ensures) (by-command (held k) (bytes k) (named (c .before .before .before .before .before .before .before .before .before .before .before .before .before .before) 17229 (c .before .before .before .before .before .before .before .before .before .before .before .before .before .match .keys1)))) in (
       long (looked k),
       omega (arith, call .kept, l .inv .1),
       omega (arith, call .kept, l .inv .2),
@@ -241,6 +248,7 @@ loop-again c =
       turn .0,
       omega (arith, grows k),
       turn .1,
+      omega (arith, call .kept, l .inv .7),
     )
 
 loop-less-2 : tie.Need-loop-less-2 Inv-loop μ-loop
@@ -252,7 +260,7 @@ loop-again-2 c =
     let l = at-loop k .loop in
     let call = c .before .before .before .before .before .call-event in
     let served = event-served (bytes k) (call .ensures) (c .before .before .put-event .ensures) in
-    let turn = again k (serves-as served (by-event (state-of (l .device)) (bytes k) (named (c .before .before .before .before .before .before .before .before .before) 17750 (c .before .before .before .before .before .before .before .before .match .keys2)))) in (
+    let turn = again k (leaves-as (area-kept (held k) served) (by-event (held k) (bytes k) (named (c .before .before .before .before .before .before .before .before .before) 17750 (c .before .before .before .before .before .before .before .before .match .keys2)))) in (
       long (looked k),
       omega (arith, c .before .before .put-event .kept, l .inv .1),
       l .inv .2,
@@ -260,6 +268,7 @@ loop-again-2 c =
       turn .0,
       omega (arith, grows k),
       turn .1,
+      l .inv .7,
     )
 
 loop-less-3 : tie.Need-loop-less-3 Inv-loop μ-loop
@@ -270,7 +279,7 @@ loop-again-3 c =
     let k = c .before .before .before .before .before .before .before .before .before .before .before in
     let l = at-loop k .loop in
     let call = c .before .before .before .media in
-    let turn = again k (serves-as (call .ensures) (by-media (state-of (l .device)) (bytes k) (named (c .before .before .before .before .before .before .before .before) 19780 (c .before .before .before .before .before .before .before .match .keys3)))) in (
+    let turn = again k (leaves-as (area-kept (held k) (call .ensures)) (by-media (held k) (bytes k) (named (c .before .before .before .before .before .before .before .before) 19780 (c .before .before .before .before .before .before .before .match .keys3)))) in (
       long (looked k),
       omega (arith, call .kept, l .inv .1),
       l .inv .2,
@@ -278,6 +287,7 @@ loop-again-3 c =
       turn .0,
       omega (arith, grows k),
       turn .1,
+      l .inv .7,
     )
 
 loop-less-4 : tie.Need-loop-less-4 Inv-loop μ-loop
@@ -289,7 +299,7 @@ loop-again-4 c =
     let l = at-loop k .loop in
     let call = c .before .before .line in
     let served = line-stays (bytes k) {d = l .device} (call .ensures) (l .inv .3) in
-    let turn = again k (serves-as served (by-line (state-of (l .device)) (bytes k) (named (c .before .before .before .before .before .before .before) 19540 (c .before .before .before .before .before .before .match .keys4)))) in (
+    let turn = again k (leaves-as (area-kept (held k) served) (by-line (held k) (bytes k) (named (c .before .before .before .before .before .before .before) 19540 (c .before .before .before .before .before .before .match .keys4)))) in (
       long (looked k),
       omega (arith, call .kept, l .inv .1),
       l .inv .2,
@@ -297,6 +307,7 @@ loop-again-4 c =
       turn .0,
       omega (arith, grows k),
       turn .1,
+      l .inv .7,
     )
 
 loop-less-5 : tie.Need-loop-less-5 Inv-loop μ-loop
@@ -305,19 +316,22 @@ loop-less-5 c = absurd (known (c))
 loop-again-5 : tie.Need-loop-again-5 Inv-loop μ-loop
 loop-again-5 c = absurd (known (c))
 
-same-length-4 : tie.Need-same-length-4 Inv-loop μ-loop
-same-length-4 c = omega (arith, c .before .before .loop .inv .0, c .before .before .before .before .before .before .pre .3)
-
 same-length-5 : tie.Need-same-length-5 Inv-loop μ-loop
-same-length-5 c = omega (arith, c .before .before .loop .inv .1, c .before .before .before .before .before .before .pre .4)
+same-length-5 c = omega (arith, c .before .before .loop .inv .0, c .before .before .before .before .before .before .before .pre .3)
 
 same-length-6 : tie.Need-same-length-6 Inv-loop μ-loop
-same-length-6 c = omega (arith, c .before .before .loop .inv .2, c .before .before .before .before .before .before .pre .5)
+same-length-6 c = omega (arith, c .before .before .loop .inv .1, c .before .before .before .before .before .before .before .pre .4)
+
+same-length-7 : tie.Need-same-length-7 Inv-loop μ-loop
+same-length-7 c = c .before .before .loop .inv .7
+
+same-length-8 : tie.Need-same-length-8 Inv-loop μ-loop
+same-length-8 c = omega (arith, c .before .before .loop .inv .2, c .before .before .before .before .before .before .before .pre .5)
 
 returns-2 : tie.Need-returns-2 Inv-loop μ-loop
 returns-2 c =
     let l = c .before .before .loop in
-    (l .inv .4 .output, run-far bench (state-of (l .device)) (l .s) (l .input) (l .out) (l .inv .6) (c .if1 .left))
+    (l .inv .4 .output, run-far bench (kept-of (l .device) (l .area)) (l .s) (l .input) (l .out) (l .inv .6) (c .if1 .left))
 
 pub serve-spec : {M : Type 1} → statement M
 serve-spec =
@@ -333,6 +347,7 @@ serve-spec =
     same-length
     same-length-2
     same-length-3
+    same-length-4
     returns
     past-requires
     sub-mark
@@ -366,7 +381,8 @@ serve-spec =
     loop-again-4
     loop-less-5
     loop-again-5
-    same-length-4
     same-length-5
     same-length-6
+    same-length-7
+    same-length-8
     returns-2)

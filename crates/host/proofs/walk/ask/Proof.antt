@@ -16,6 +16,9 @@ get-poison-list-requires c κs = search needs
 slice-aggregate-command : tie.Need-slice-aggregate-command
 slice-aggregate-command c = search needs
 
+slice-aggregate-command-2 : tie.Need-slice-aggregate-command-2
+slice-aggregate-command-2 c = search needs
+
 command-requires : tie.Need-command-requires
 command-requires c κs = search needs
 
@@ -24,10 +27,10 @@ same-length c = search needs
 
 returns : tie.Need-returns
 returns c =
-    let built = c .before .before .before .before .before .before in
+    let built = c .before .before .before .before .before .before .before .before in
     let s = built .before .before .before in
-    asked (s .args .device) (s .args .address) (s .args .lines) (request-built (s .args .address) (s .args .lines) refl (built .get-poison-list .ensures))
-    (c .before .before .command .ensures)
+    asked (s .args .device) (s .args .address) (s .args .lines) (request-built (s .args .address) (s .args .lines) refl (built .get-poison-list .ensures)) refl
+    (c .before .before .before .command .ensures .0)
 
 pub ask-spec : {M : Type 1} → statement M
 ask-spec =
@@ -36,6 +39,7 @@ ask-spec =
     slice-aggregate-get-poison-list
     get-poison-list-requires
     slice-aggregate-command
+    slice-aggregate-command-2
     command-requires
     same-length
     returns)

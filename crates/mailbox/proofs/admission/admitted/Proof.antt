@@ -44,11 +44,17 @@ exactly-requires-7 c κs = search needs
 exactly-requires-8 : tie.Need-exactly-requires-8
 exactly-requires-8 c κs = search needs
 
+at-least-requires-2 : tie.Need-at-least-requires-2
+at-least-requires-2 c κs = search needs
+
 exactly-requires-9 : tie.Need-exactly-requires-9
 exactly-requires-9 c κs = search needs
 
 exactly-requires-10 : tie.Need-exactly-requires-10
 exactly-requires-10 c κs = search needs
+
+exactly-requires-11 : tie.Need-exactly-requires-11
+exactly-requires-11 c κs = search needs
 
 returns-3 : tie.Need-returns-3
 unfolding commands
@@ -88,19 +94,27 @@ returns-11 c = c .exactly7 .ensures ∙ admission-at _ _ _ 0x4000 (search needs)
 
 returns-12 : tie.Need-returns-12
 unfolding commands
-returns-12 c = c .exactly8 .ensures ∙ admission-at _ _ _ 0x4300 (search needs) (search needs) (search needs)
+returns-12 c = c .exactly8 .ensures ∙ admission-at _ _ _ 0x4102 (search needs) (search needs) (search needs)
 
 returns-13 : tie.Need-returns-13
 unfolding commands
-returns-13 c = c .exactly9 .ensures ∙ admission-at _ _ _ 0x4301 (search needs) (search needs) (search needs)
+returns-13 c = c .at-least2 .ensures ∙ admission-at _ _ _ 0x4103 (search needs) (search needs) (search needs)
 
 returns-14 : tie.Need-returns-14
 unfolding commands
-returns-14 c = c .exactly10 .ensures ∙ admission-at _ _ _ 0x4302 (search needs) (search needs) (search needs)
+returns-14 c = c .exactly9 .ensures ∙ admission-at _ _ _ 0x4300 (search needs) (search needs) (search needs)
 
 returns-15 : tie.Need-returns-15
 unfolding commands
-returns-15 c = admission-unknown _ _ _ (search needs) (search needs) (simp (ne-eqb _ _ (c .match .rest .0 .0 .0 .0 .0 .0 .0 .0 .0 .0 .0 .1), ne-eqb _ _ (c .match .rest .0 .0 .0 .0 .0 .0 .0 .0 .0 .0 .1), ne-eqb _ _ (c .match .rest .0 .0 .0 .0 .0 .0 .0 .0 .0 .1), ne-eqb _ _ (c .match .rest .0 .0 .0 .0 .0 .0 .0 .0 .1), ne-eqb _ _ (c .match .rest .0 .0 .0 .0 .0 .0 .0 .1), ne-eqb _ _ (c .match .rest .0 .0 .0 .0 .0 .0 .1), ne-eqb _ _ (c .match .rest .0 .0 .0 .0 .0 .1), ne-eqb _ _ (c .match .rest .0 .0 .0 .0 .1), ne-eqb _ _ (c .match .rest .0 .0 .0 .1), ne-eqb _ _ (c .match .rest .0 .0 .1), ne-eqb _ _ (c .match .rest .0 .1), ne-eqb _ _ (c .match .rest .1)))
+returns-15 c = c .exactly10 .ensures ∙ admission-at _ _ _ 0x4301 (search needs) (search needs) (search needs)
+
+returns-16 : tie.Need-returns-16
+unfolding commands
+returns-16 c = c .exactly11 .ensures ∙ admission-at _ _ _ 0x4302 (search needs) (search needs) (search needs)
+
+returns-17 : tie.Need-returns-17
+unfolding commands
+returns-17 c = admission-unknown _ _ _ (search needs) (search needs) (simp (ne-eqb _ _ (c .match .rest .0 .0 .0 .0 .0 .0 .0 .0 .0 .0 .0 .0 .0 .1), ne-eqb _ _ (c .match .rest .0 .0 .0 .0 .0 .0 .0 .0 .0 .0 .0 .0 .1), ne-eqb _ _ (c .match .rest .0 .0 .0 .0 .0 .0 .0 .0 .0 .0 .0 .1), ne-eqb _ _ (c .match .rest .0 .0 .0 .0 .0 .0 .0 .0 .0 .0 .1), ne-eqb _ _ (c .match .rest .0 .0 .0 .0 .0 .0 .0 .0 .0 .1), ne-eqb _ _ (c .match .rest .0 .0 .0 .0 .0 .0 .0 .0 .1), ne-eqb _ _ (c .match .rest .0 .0 .0 .0 .0 .0 .0 .1), ne-eqb _ _ (c .match .rest .0 .0 .0 .0 .0 .0 .1), ne-eqb _ _ (c .match .rest .0 .0 .0 .0 .0 .1), ne-eqb _ _ (c .match .rest .0 .0 .0 .0 .1), ne-eqb _ _ (c .match .rest .0 .0 .0 .1), ne-eqb _ _ (c .match .rest .0 .0 .1), ne-eqb _ _ (c .match .rest .0 .1), ne-eqb _ _ (c .match .rest .1)))
 
 pub admitted-spec : {M : Type 1} → statement M
 admitted-spec =
@@ -118,8 +132,10 @@ admitted-spec =
     exactly-requires-6
     exactly-requires-7
     exactly-requires-8
+    at-least-requires-2
     exactly-requires-9
     exactly-requires-10
+    exactly-requires-11
     returns-3
     returns-4
     returns-5
@@ -132,4 +148,6 @@ admitted-spec =
     returns-12
     returns-13
     returns-14
-    returns-15)
+    returns-15
+    returns-16
+    returns-17)

@@ -1,12 +1,12 @@
 -- `probe::serve::call_command` meets its contract: the fields read are those of the record's bytes, the buffer is filled, and the payload is all that comes after them.
 -- Assumes nothing.
-use mathlib.Core.Path.{_≡_, ap, _∙_}
+use mathlib.Core.Path.{_≡_, refl, ap, _∙_}
 use Prim.Native.Nat.{ℕ}
 use native.Mathlib.Omega.{arith}
 use borrow.Author.Needs.{needs}
 use lib.ListN.{length, getD, replicate}
 use Rattle.wire.specs.Wire.{field}
-use Rattle.protocol.proofs.Laws.{command-at, rest-of}
+use Rattle.protocol.proofs.Laws.{command-at, area-at, rest-of}
 use Rattle.probe.proofs.serve.call_command.Statement.{statement}
 use Rattle.probe.proofs.serve.call_command.Tie as tie
 
@@ -40,14 +40,21 @@ command-requires c κs = search needs
 same-length : tie.Need-same-length
 same-length c = search needs
 
+same-length-2 : tie.Need-same-length-2
+same-length-2 c = search needs
+
 returns : tie.Need-returns
 returns c =
-    let s = c .before .before .before .before .before .before .before .before .before .before .before .before .before .before in
+    let s = c .before .before .before .before .before .before .before .before .before .before .before .before .before .before .before .before .before .before in
     let bytes = s .args .bytes .now in
-    let filled' = c .before .before .before .before .before .before .before .fill in
-    let room : length (filled' .last .0) ≡ field bytes 12 2 = omega (arith, filled' .kept .0, s .pre .2) in
-    command-at (c .before .before .command .ensures) (c .before .before .before .before .before .before .before .before .before .before .get2 .ensures .value) (rest-of 17 bytes) (c .before .before .before .before .before .before .before .before .before .before .before .get .ensures .value)
-    room (filled' .ensures ∙ ap (λ (k : ℕ). replicate k (getD bytes 14 0)) (s .pre .2))
+    let filled' = c .before .before .before .before .before .before .before .before .before .before .fill in
+    let told = c .before .before .before .before .command in
+    let op = c .before .before .before .before .before .before .before .before .before .before .before .before .before .get2 .ensures .value in
+    let time = c .before .before .before .before .before .before .before .before .before .before .before .before .before .before .get .ensures .value in
+    let room : length (filled' .last .0) ≡ field bytes 12 2 = omega (arith, filled' .kept .0, s .pre .2) in (
+      command-at (told .ensures .0) op (rest-of 17 bytes) time refl room (filled' .ensures ∙ ap (λ (k : ℕ). replicate k (getD bytes 14 0)) (s .pre .2)),
+      area-at (told .result .code) (s .args .area .now) (told .ensures .1) op (rest-of 17 bytes),
+    )
 
 pub call-command-spec : {M : Type 1} → statement M
 call-command-spec =
@@ -63,4 +70,5 @@ call-command-spec =
     part-command-end
     command-requires
     same-length
+    same-length-2
     returns)

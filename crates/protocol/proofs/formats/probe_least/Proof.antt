@@ -50,9 +50,17 @@ unfolding probe-least
 returns-11 c = sym (ap probe-least (c .match .keys11))
 
 returns-12 : tie.Need-returns-12
-returns-12 c =
+unfolding probe-least
+returns-12 c = sym (ap probe-least (c .match .keys12))
+
+returns-13 : tie.Need-returns-13
+unfolding probe-least
+returns-13 c = sym (ap probe-least (c .match .keys13))
+
+returns-14 : tie.Need-returns-14
+returns-14 c =
     let rest = c .match .rest in
-    least-none _ (rest .0 .0 .0 .0 .0 .0 .0 .0 .0 .0 .1) (rest .0 .0 .0 .0 .0 .0 .0 .0 .0 .1) (rest .0 .0 .0 .0 .0 .0 .0 .0 .1) (rest .0 .0 .0 .0 .0 .0 .0 .1) (rest .0 .0 .0 .0 .0 .0 .1) (rest .0 .0 .0 .0 .0 .1) (rest .0 .0 .0 .0 .1) (rest .0 .0 .0 .1) (rest .0 .0 .1) (rest .0 .1) (rest .1)
+    least-none _ (rest .0 .0 .0 .0 .0 .0 .0 .0 .0 .0 .0 .0 .1) (rest .0 .0 .0 .0 .0 .0 .0 .0 .0 .0 .0 .1) (rest .0 .0 .0 .0 .0 .0 .0 .0 .0 .0 .1) (rest .0 .0 .0 .0 .0 .0 .0 .0 .0 .1) (rest .0 .0 .0 .0 .0 .0 .0 .0 .1) (rest .0 .0 .0 .0 .0 .0 .0 .1) (rest .0 .0 .0 .0 .0 .0 .1) (rest .0 .0 .0 .0 .0 .1) (rest .0 .0 .0 .0 .1) (rest .0 .0 .0 .1) (rest .0 .0 .1) (rest .0 .1) (rest .1)
 
 pub probe-least-spec : {M : Type 1} → statement M
 probe-least-spec =
@@ -69,4 +77,6 @@ probe-least-spec =
     returns-9
     returns-10
     returns-11
-    returns-12)
+    returns-12
+    returns-13
+    returns-14)

@@ -26,6 +26,12 @@ again-size-requires c κs = (c .before .before .before .pre, sym (c .before .mar
 walk-size-requires : tie.Need-walk-size-requires
 walk-size-requires c κs = (c .before .before .before .pre, sym (c .before .mark .ensures) ∙ c .match .keys6)
 
+area-size-requires : tie.Need-area-size-requires
+area-size-requires c κs = (c .before .before .before .pre, sym (c .before .mark .ensures) ∙ c .match .keys7)
+
+bytes-size-requires : tie.Need-bytes-size-requires
+bytes-size-requires c κs = (c .before .before .before .pre, sym (c .before .mark .ensures) ∙ c .match .keys8)
+
 returns : tie.Need-returns
 returns c = c .command-size .ensures
 
@@ -45,11 +51,17 @@ returns-6 : tie.Need-returns-6
 returns-6 c = c .walk-size .ensures
 
 returns-7 : tie.Need-returns-7
-returns-7 c =
+returns-7 c = c .area-size .ensures
+
+returns-8 : tie.Need-returns-8
+returns-8 c = c .bytes-size .ensures
+
+returns-9 : tie.Need-returns-9
+returns-9 c =
     let s = c .before .before .before in
     let told = c .before .mark .ensures in
     let rest = c .match .rest in
-    (probe-plain (s .args .head .now) (λ e. rest .0 .0 .0 .0 .0 .1 (told ∙ e)) (λ e. rest .0 .0 .0 .0 .1 (told ∙ e)) (λ e. rest .0 .0 .0 .1 (told ∙ e)) (λ e. rest .0 .0 .1 (told ∙ e)) (λ e. rest .0 .1 (told ∙ e)) (λ e. rest .1 (told ∙ e)), omega (arith, s .pre .part .most))
+    (probe-plain (s .args .head .now) (λ e. rest .0 .0 .0 .0 .0 .0 .0 .1 (told ∙ e)) (λ e. rest .0 .0 .0 .0 .0 .0 .1 (told ∙ e)) (λ e. rest .0 .0 .0 .0 .0 .1 (told ∙ e)) (λ e. rest .0 .0 .0 .0 .1 (told ∙ e)) (λ e. rest .0 .0 .0 .1 (told ∙ e)) (λ e. rest .0 .0 .1 (told ∙ e)) (λ e. rest .0 .1 (told ∙ e)) (λ e. rest .1 (told ∙ e)), omega (arith, s .pre .part .most))
 
 pub probe-size-spec : {M : Type 1} → statement M
 probe-size-spec =
@@ -62,10 +74,14 @@ probe-size-spec =
     reply-size-requires
     again-size-requires
     walk-size-requires
+    area-size-requires
+    bytes-size-requires
     returns
     returns-2
     returns-3
     returns-4
     returns-5
     returns-6
-    returns-7)
+    returns-7
+    returns-8
+    returns-9)

@@ -1,9 +1,9 @@
--- `mailbox::poison_commands::first_refusal` meets its contract. Assumes nothing.
+-- `mailbox::admission::first_refusal` meets its contract. Assumes nothing.
 use Rattle.wire.proofs.Laws.{need-holds, need-fails}
 use borrow.Author.Tests.{eq-eqb, ne-eqb}
 use Prim.Native.Nat.{_-_}
-use Rattle.mailbox.proofs.poison_commands.first_refusal.Statement.{statement}
-use Rattle.mailbox.proofs.poison_commands.first_refusal.Tie as tie
+use Rattle.mailbox.proofs.admission.first_refusal.Statement.{statement}
+use Rattle.mailbox.proofs.admission.first_refusal.Tie as tie
 
 returns : tie.Need-returns
 returns c = need-fails _ _ (ne-eqb _ _ (c .if1 .taken))
