@@ -1,6 +1,6 @@
 //! Document 01 "Bench program": records in, a line for each out.
 
-use crate::device::numbers::number_of;
+use crate::device::numbers::{number_of, LABEL_AREA};
 use crate::device::{Config, Device};
 pub use crate::line::push_hex;
 use crate::line::Line;
@@ -35,6 +35,8 @@ pub fn lines_of(stream: &[u8], config: Config) -> Vec<u8> {
 pub struct Bench {
     config: Config,
     device: Device,
+    /// "an area starts as zeros and is kept"
+    labels: Vec<u8>,
     /// The line of the last step, with its line end.
     pub line: Line,
 }
@@ -45,6 +47,7 @@ impl Bench {
         Bench {
             config,
             device: Device::make(1, 0, config).1,
+            labels: vec![0; LABEL_AREA],
             line: Line::default(),
         }
     }
@@ -67,16 +70,19 @@ impl Bench {
                 time,
                 opcode,
                 payload,
-            } => match self.device.answer(*opcode, payload, *time) {
-                // "for CM the length and lower-case hex (none if length 0)"
-                Ok(reply) => {
-                    self.line.numbers([0, reply.len() as u128]);
-                    if !reply.is_empty() {
-                        self.line.hex(&reply);
+            } => {
+                let labels = &mut self.labels;
+                match self.device.run(*opcode, payload, *time, labels) {
+                    // "for CM the length and lower-case hex (none if length 0)"
+                    Ok(done) => {
+                        self.line.numbers([0, done.reply.len() as u128]);
+                        if !done.reply.is_empty() {
+                            self.line.hex(&done.reply);
+                        }
                     }
+                    Err(refusal) => self.line.numbers([refusal.number().into(), 0]),
                 }
-                Err(refusal) => self.line.numbers([refusal.number().into(), 0]),
-            },
+            }
             // "A refused EV, MD or LT prints mark and code only."
             Record::Event { time, log, record } => {
                 match self.device.event_report(*log, record, *time) {

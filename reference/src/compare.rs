@@ -249,6 +249,10 @@ fn words_of_record(format: Format, stream: &[u8], number: usize) -> Next<String>
 /// that a column after them does. Nothing where there is no reply.
 fn reply_byte(expected: &str, came: &str) -> String {
     let reply = |line: &str| {
+        // "`AB bytes`": the bytes are the first column.
+        if let Some(bytes) = line.strip_prefix("AB ") {
+            return Some(bytes.to_string());
+        }
         let marks = ["CM ", "RQ ", "RW ", "WK "];
         let columns = marks.iter().find_map(|mark| line.strip_prefix(mark))?;
         columns.split(' ').nth(2).map(str::to_string)

@@ -36,8 +36,8 @@ Reads bench records from standard input and prints a line for each, as document
 reference probe [--fault NAME] < STREAM
 
 Reads probe records from standard input and prints a line for each, as document
-10 says for the records of the base and those of W-202, with the vector column of
-W-204. Exit status 0, after BAD too.
+10 says for the records of the base and those of W-202 and W-206, with the vector
+column of W-204. Exit status 0, after BAD too.
 
   --fault NAME  with a planted fault of `reference faults --format probe`
 ",

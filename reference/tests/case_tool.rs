@@ -47,6 +47,12 @@ fn errors_name_file_line_and_what_was_expected() {
         ("command identify raw=00*2049", "case.txt:1: expected a payload of at most 2048 bytes (see `bytes`)"),
         ("command clear-poison address=0 data=00", "case.txt:1: expected data= of 64 bytes"),
         ("command get-log id=00 offset=0 length=0", "case.txt:1: expected id=effects or an id of 16 bytes"),
+        ("command get-labels offset=0", "case.txt:1: expected length=NUMBER"),
+        ("command get-labels offset=4294967296 length=0", "case.txt:1: expected offset= from 0 to 4294967295, not `4294967296`"),
+        ("command set-labels data=00", "case.txt:1: expected offset=NUMBER"),
+        ("command set-labels offset=0 reserved=000000", "case.txt:1: expected reserved= of 4 bytes"),
+        ("command set-labels offset=0 data=0", "case.txt:1: expected bytes in hex, two digits each, not `0`"),
+        ("command set-labels offset=0 data=00*2041", "case.txt:1: expected a payload of at most 2048 bytes (see `bytes`)"),
         ("bytes 0g", "case.txt:1: expected bytes in hex, two digits each, not `0g`"),
         ("repeat 2\nnew 1 0", "case.txt:1: expected `end` to this `repeat`"),
         ("new 1 0\nend", "case.txt:2: expected `repeat` before this `end`"),
@@ -70,7 +76,7 @@ fn errors_name_file_line_and_what_was_expected() {
         assert_eq!(error(text), expected);
     }
     for (text, expected) in [
-        ("news 1 0", "expected new, command, event, media, line, status, total, request, reply, write-again, walk, bytes, repeat or end, not `news`"),
+        ("news 1 0", "expected new, command, event, media, line, status, total, label-area, label-bytes, request, reply, write-again, walk, bytes, repeat or end, not `news`"),
         ("command identify room=4097", "expected room= from 0 to 4096, not `4097`"),
         ("command identify fill=1", "expected fill= as one byte of two hex digits, not `1`"),
         ("command identify raw=00*4097", "expected a payload of at most 4096 bytes (see `bytes`)"),
@@ -81,6 +87,17 @@ fn errors_name_file_line_and_what_was_expected() {
         ("event log=0 fill=00 length=4097", "expected length= from 0 to 4096, not `4097`"),
         ("status log=0", "expected no `log=` here"),
         ("total 1", "expected no `1` here"),
+        ("label-area", "expected size=NUMBER"),
+        ("label-area size=8193", "expected size= from 0 to 8192, not `8193`"),
+        ("label-area size=1 offset=0", "expected no `offset=` here"),
+        ("label-area size=1 => success", "expected after `=>` one of nothing, bad, unreadable, offset=, not `success`"),
+        ("label-bytes offset=0", "expected length=NUMBER"),
+        ("label-bytes offset=8193 length=0", "expected offset= from 0 to 8192, not `8193`"),
+        ("label-bytes offset=8192 length=1", "expected offset= plus length= of at most 8192 (see `bytes`)"),
+        ("label-bytes offset=0 length=1 => success", "expected after `=>` one of nothing, bad, unreadable, data=, offset=, not `success`"),
+        ("label-bytes offset=0 length=1 => data=0", "expected after `=>` data= with bytes in hex, not `0`"),
+        ("request get-labels offset=0 length=1", "expected a command of document 01 (see `bytes`)"),
+        ("request set-labels offset=0", "expected a command of document 01 (see `bytes`)"),
         ("request", "expected one command name (see `bytes`)"),
         ("request opcode=0x0100", "expected one command name (see `bytes`)"),
         ("request identify time=0", "expected no `time=` here"),
@@ -773,7 +790,7 @@ fn an_error_is_printed_once_by_each_subcommand() {
     let name = path.to_str().unwrap();
     let wrong = [
         ("repeat 3\ncommand identify room=x\nend\n", "expected room= from 0 to 4096, not `x`"),
-        ("\nlines 3\n", "expected new, command, event, media, line, status, total, request, reply, write-again, walk, bytes, repeat or end, not `lines`"),
+        ("\nlines 3\n", "expected new, command, event, media, line, status, total, label-area, label-bytes, request, reply, write-again, walk, bytes, repeat or end, not `lines`"),
     ];
     for (text, message) in wrong {
         std::fs::write(&path, format!("program probe\n{text}")).unwrap();

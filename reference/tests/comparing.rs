@@ -329,9 +329,9 @@ fn malformed_probe_streams_end_bad() {
         text.lines().last().unwrap_or_default().starts_with("BAD ")
     };
     // All but the empty input and the cuts before a record's first byte: of NW,
-    // two CM, EV, MD, LT, ES, DT, five RQ, RP, RW, WK and a later NW.
+    // two CM, EV, MD, LT, ES, DT, five RQ, RP, RW, WK, AR, AB and a later NW.
     let bad = (0..malformed.streams()).filter(bad).count();
-    assert_eq!(bad, malformed.streams() - 1 - 17);
+    assert_eq!(bad, malformed.streams() - 1 - 19);
 }
 
 #[test]
@@ -570,7 +570,7 @@ fn reserved_place(payload: &[u8]) -> Option<String> {
 
 /// The return number of a command on a copy of the device.
 fn number_of(device: &Device, code: u16, payload: &[u8]) -> u16 {
-    let answer = device.clone().run(code, payload, 0);
+    let answer = device.clone().answer(code, payload, 0);
     answer.err().map_or(0, |refusal| refusal.number())
 }
 

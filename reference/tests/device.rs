@@ -6,7 +6,7 @@ mod common;
 use common::each_step;
 use reference::device::events::{handles_given, more, EventLog};
 use reference::device::logs::Reported;
-use reference::device::numbers::{opcode, Refusal};
+use reference::device::numbers::{opcode, Refusal, LABEL_AREA};
 use reference::device::{Config, Device};
 use reference::format::Format;
 use reference::generate::profile_named;
@@ -332,7 +332,7 @@ fn supported_logs_and_effects() {
     let reply = device.answer(opcode::GET_SUPPORTED_LOGS, &[], 0).unwrap();
     assert_eq!(reply.len(), 28);
     assert_eq!(reply[..8], [1, 0, 0, 0, 0, 0, 0, 0]);
-    assert_eq!(reply[24..], [48, 0, 0, 0]);
+    assert_eq!(reply[24..], [56, 0, 0, 0]);
     let identifier = reply[8..24].to_vec();
     let mut get = |offset: u32, length: u32| {
         let mut payload = identifier.clone();
@@ -340,14 +340,19 @@ fn supported_logs_and_effects() {
         payload.extend(length.to_le_bytes());
         device.answer(opcode::GET_LOG, &payload, 0)
     };
-    let whole = get(0, 48).unwrap();
+    let whole = get(0, 56).unwrap();
     assert_eq!(whole[4..8], [0x01, 0x01, 0x10, 0x00]);
     assert_eq!(whole[12..16], [0x03, 0x01, 0x02, 0x00]);
     assert_eq!(whole[20..24], [0x01, 0x03, 0x08, 0x00]);
-    assert_eq!(whole[44..], [0x02, 0x43, 0x00, 0x00]);
+    // 4102h and 4103h after 4000h, "4103h with effect 6" (W-206).
+    assert_eq!(
+        whole[36..44],
+        [0x02, 0x41, 0x00, 0x00, 0x03, 0x41, 0x06, 0x00]
+    );
+    assert_eq!(whole[52..], [0x02, 0x43, 0x00, 0x00]);
     assert_eq!(get(7, 30).unwrap(), whole[7..37]);
-    assert_eq!(get(48, 0), SUCCESS);
-    for (offset, length) in [(0, 49), (48, 1), (49, 0), (0, 2049), (u32::MAX, 49)] {
+    assert_eq!(get(56, 0), SUCCESS);
+    for (offset, length) in [(0, 57), (56, 1), (57, 0), (0, 2049), (u32::MAX, 57)] {
         assert_eq!(get(offset, length), Err(Refusal::InvalidInput));
     }
 }
@@ -360,6 +365,8 @@ fn identify_is_69_bytes() {
     assert_eq!(&reply[..16], b"BWFW VERSION 0\0\0");
     assert_eq!((reply[16], reply[24], reply[32]), (5, 2, 3));
     assert_eq!(reply[48..56], [8, 0, 8, 0, 8, 0, 8, 0]);
+    // "Identify's label size becomes 4,096" (W-206).
+    assert_eq!(reply[56..60], [0x00, 0x10, 0x00, 0x00]);
     assert_eq!(reply[60..], [0, 1, 0, 0, 0, 0, 0, 8, 0]);
 }
 
@@ -370,7 +377,7 @@ fn order_and_reply_buffer() {
     let mut small = [0xaa; 2047];
     let mut ask = |code, payload: &[u8], reply: &mut [u8]| {
         let before = device.clone();
-        let answer = device.command(code, payload, 0, reply);
+        let answer = device.command(code, payload, 0, &mut [0; LABEL_AREA], reply);
         assert_eq!(answer.vector, None);
         ((answer.number, answer.length), device == before)
     };

@@ -5,7 +5,7 @@ mod common;
 
 use common::each_step;
 use reference::device::logs::Reported;
-use reference::device::numbers::{number, opcode, Refusal};
+use reference::device::numbers::{number, opcode, Refusal, LABEL_AREA};
 use reference::device::{Answered, Config, Device, Done, LineAnswer};
 use reference::format::Format;
 use reference::generate::profile_named;
@@ -25,9 +25,13 @@ fn with_policy(settings: &[u8]) -> Device {
     device
 }
 
+fn run(device: &mut Device, code: u16, payload: &[u8], time: u64) -> Result<Done, Refusal> {
+    device.run(code, payload, time, &mut [0; LABEL_AREA])
+}
+
 /// A command that carries no vector.
 fn plain(device: &mut Device, code: u16, payload: &[u8], time: u64) -> Vec<u8> {
-    let done = device.run(code, payload, time).unwrap();
+    let done = run(device, code, payload, time).unwrap();
     assert_eq!(done.vector, None);
     done.reply
 }
@@ -56,7 +60,7 @@ fn empty(device: &mut Device, log: u8) {
 }
 
 fn inject(device: &mut Device, address: u64, time: u64) -> Result<Option<u8>, Refusal> {
-    let done = device.run(opcode::INJECT_POISON, &address.to_le_bytes(), time)?;
+    let done = run(device, opcode::INJECT_POISON, &address.to_le_bytes(), time)?;
     assert_eq!(done.reply, []);
     Ok(done.vector)
 }
@@ -237,11 +241,12 @@ fn what_adds_no_entry_reports_nothing() {
         assert_eq!(refused, Err(Refusal::InvalidPhysicalAddress));
     }
     for length in [0, 7, 9, 2048, 2049] {
-        let refused = device.run(opcode::INJECT_POISON, &vec![0; length], 5);
+        let refused = run(&mut device, opcode::INJECT_POISON, &vec![0; length], 5);
         assert_eq!(refused, Err(Refusal::InvalidPayloadLength));
     }
     let mut small = [0xaa; 2047];
-    let refused = device.command(opcode::INJECT_POISON, &[0; 8], 5, &mut small);
+    let labels = &mut [0; LABEL_AREA];
+    let refused = device.command(opcode::INJECT_POISON, &[0; 8], 5, labels, &mut small);
     let expected = Answered {
         number: 0x0100,
         length: 0,
@@ -309,10 +314,10 @@ fn handles_of_injections_come_round() {
 /// The rule out of what can be read before and after a call: a vector exactly where a log
 /// that its policy byte enables went from no record to one, and then that log's.
 fn expected_vector(before: &Device, after: &Device) -> Option<u8> {
-    let policy = before.clone().run(opcode::GET_POLICY, &[], 0).unwrap();
+    let policy = plain(&mut before.clone(), opcode::GET_POLICY, &[], 0);
     let records = |device: &Device, log: usize| device.log(log).handles().len();
     let raised = (0..5).find(|log| (records(before, *log), records(after, *log)) == (0, 1));
-    let raised = raised.filter(|log| policy.reply[*log] != 0);
+    let raised = raised.filter(|log| policy[*log] != 0);
     raised.map(|log| VECTORS[log])
 }
 
@@ -381,7 +386,7 @@ fn other_commands_carry_none() {
             if code == opcode::INJECT_POISON {
                 continue;
             }
-            let done = device.run(code, &vec![0; length], 0);
+            let done = run(&mut device, code, &vec![0; length], 0);
             let vector = done.map(|Done { vector, .. }| vector);
             assert!(matches!(vector, Ok(None) | Err(_)), "{code:04x}");
             set_policy(&mut device, &[1; 5]);

@@ -150,7 +150,7 @@ fn a_cut_record_is_bad_at_its_mark() {
 
 #[test]
 fn an_unknown_mark_is_bad_and_stops() {
-    let marks = "AR AB PC TT UM DB EL LP NX HS NZ nw cm ev md lt es dt XX BA";
+    let marks = "PC TT UM DB EL LP NX HS NZ ar ab nw cm ev md lt es dt XX BA";
     for mark in marks.split(' ') {
         let parts = [mark.as_bytes().to_vec(), vec![0; 40], es()];
         assert_eq!(after_new(&parts), "BAD 6\n", "{mark}");
@@ -473,7 +473,7 @@ fn the_device_beside_a_refused_make_is_used_on() {
     ];
     let identity = "42574657 20564552 53494f4e 20300000\
         0100000000000000 0100000000000000 0000000000000000 0000000000000000\
-        0800080008000800 00000000 000100 0000 0000 0800"
+        0800080008000800 00100000 000100 0000 0000 0800"
         .replace(' ', "");
     let expected =
         format!("NW 2\nLT 0 0 0\nLT 15 2 0\nMD 0 1 0\nLT 0 1 7\nDT 1\nCM 0 69 {identity} 1 0\n");

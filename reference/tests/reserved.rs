@@ -4,7 +4,7 @@
 mod common;
 
 use common::each_step;
-use reference::device::numbers::{opcode, Refusal};
+use reference::device::numbers::{opcode, Refusal, LABEL_AREA};
 use reference::device::{Answered, Config, Device};
 use reference::format::Format;
 use reference::generate::profile_named;
@@ -329,7 +329,8 @@ fn the_room_and_the_payload_limit_come_first() {
         ] {
             let mut device = before.clone();
             let mut reply = vec![0xaa; room];
-            let answer = device.command(code, payload, 7, &mut reply);
+            let labels = &mut [0; LABEL_AREA];
+            let answer = device.command(code, payload, 7, labels, &mut reply);
             assert_eq!(answer, refused(number), "{code:04x} {payload:?}");
             assert_eq!(reply, vec![0xaa; room]);
             assert_eq!(device, before);

@@ -42,6 +42,8 @@ fn columns(format: Format, record: &Record) -> &'static [&'static str] {
         Record::Reply { .. } => &["code"],
         Record::Rewrite { .. } => &["code", "length", "reply", "kept"],
         Record::Walk { .. } => &["code", "length", "records", "kept"],
+        Record::LabelArea { .. } => &[],
+        Record::LabelBytes { .. } => &["data"],
     }
 }
 
@@ -259,7 +261,12 @@ fn meaning(answer: &mut Answer, record: &Record) -> Option<()> {
             answer.add("logs", logs.join(","));
             answer.add("highest-log", log_word(highest));
         }
-        Record::New { .. } | Record::Media { .. } | Record::Total | Record::Reply { .. } => {}
+        Record::LabelBytes { length, .. } => {
+            let bytes = hex_bytes(answer.field("data")?)?;
+            Some(()).filter(|()| bytes.len() == usize::from(*length))?;
+        }
+        Record::New { .. } | Record::Media { .. } | Record::Total => {}
+        Record::Reply { .. } | Record::LabelArea { .. } => {}
     }
     Some(())
 }
@@ -289,6 +296,7 @@ fn stateable(format: Format, record: &Record) -> (Vec<&'static str>, Vec<&'stati
         }
         Record::New { .. } | Record::Media { .. } | Record::Total => {}
         Record::Request { .. } | Record::Rewrite { .. } => {}
+        Record::LabelArea { .. } | Record::LabelBytes { .. } => {}
     }
     (words, fields)
 }

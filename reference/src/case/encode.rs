@@ -8,7 +8,7 @@ use super::text::{plain_lines, whole_number, CaseError, PlainLine};
 use crate::device::numbers::{opcode, MAILBOX, RECORD};
 use crate::device::EFFECTS_IDENTIFIER;
 use crate::format::Format;
-use crate::probe::record::{Record, MOST};
+use crate::probe::record::{Record, LABEL_STORE, MOST};
 
 /// A case line with its bytes and their place in the stream.
 #[derive(Clone, Debug, PartialEq, Eq)]
@@ -34,7 +34,7 @@ impl Case {
 }
 
 /// The names of the commands, as the case text writes them.
-pub const COMMANDS: [(&str, u16); 12] = [
+pub const COMMANDS: [(&str, u16); 14] = [
     ("get-event-records", opcode::GET_EVENT_RECORDS),
     ("clear-event-records", opcode::CLEAR_EVENT_RECORDS),
     ("get-event-interrupt-policy", opcode::GET_POLICY),
@@ -44,6 +44,8 @@ pub const COMMANDS: [(&str, u16); 12] = [
     ("get-supported-logs", opcode::GET_SUPPORTED_LOGS),
     ("get-log", opcode::GET_LOG),
     ("identify", opcode::IDENTIFY),
+    ("get-labels", opcode::GET_LSA),
+    ("set-labels", opcode::SET_LSA),
     ("get-poison-list", opcode::GET_POISON_LIST),
     ("inject-poison", opcode::INJECT_POISON),
     ("clear-poison", opcode::CLEAR_POISON),
@@ -200,6 +202,10 @@ fn record(format: Format, words: &str) -> Result<Option<Record>, String> {
         },
         "status" => Record::Status,
         "total" => Record::Total,
+        "label-area" => Record::LabelArea {
+            size: fields.number("size", LABEL_STORE as u64)? as u32,
+        },
+        "label-bytes" => label_bytes(&mut fields)?,
         first => host_lines::record(first, &mut fields)?.ok_or("expected a record's first word")?,
     };
     let bare = match record {
@@ -222,6 +228,24 @@ fn new(fields: &Fields) -> Result<Record, String> {
             persistent: unit(persistent).ok_or(units)?,
         }),
         _ => Err(units.to_string()),
+    }
+}
+
+/// A `label-bytes` line.
+fn label_bytes(fields: &mut Fields) -> Result<Record, String> {
+    let most = LABEL_STORE as u64;
+    let (offset, length) = (
+        fields.number("offset", most)?,
+        fields.number("length", most)?,
+    );
+    match offset + length <= most {
+        true => Ok(Record::LabelBytes {
+            offset: offset as u16,
+            length: length as u16,
+        }),
+        false => Err(format!(
+            "expected offset= plus length= of at most {most} (see `bytes`)"
+        )),
     }
 }
 
@@ -257,7 +281,7 @@ fn command(format: Format, fields: &mut Fields) -> Result<Record, String> {
     })
 }
 
-/// The name of a command, or `opcode=N` if it is none of the twelve.
+/// The name of a command, or `opcode=N` if it is none of them.
 pub fn name_of(code: u16) -> String {
     let found = COMMANDS.iter().find(|(_, known)| *known == code);
     found.map_or(format!("opcode={code:#06x}"), |(name, _)| name.to_string())
@@ -305,10 +329,17 @@ fn payload(code: u16, fields: &mut Fields) -> Result<Vec<u8>, String> {
         opcode::SET_TIMESTAMP => out.extend(fields.number("value", u64::MAX)?.to_le_bytes()),
         opcode::GET_LOG => {
             out.extend(identifier(fields)?);
-            for name in ["offset", "length"] {
-                let value = fields.number(name, u32::MAX.into())? as u32;
-                out.extend(value.to_le_bytes());
-            }
+            out.extend(four_bytes(fields, "offset")?);
+            out.extend(four_bytes(fields, "length")?);
+        }
+        opcode::GET_LSA => {
+            out.extend(four_bytes(fields, "offset")?);
+            out.extend(four_bytes(fields, "length")?);
+        }
+        opcode::SET_LSA => {
+            out.extend(four_bytes(fields, "offset")?);
+            out.extend(fields.hex_or("reserved", 4, 0)?);
+            out.extend(hex_groups(&fields.take("data").unwrap_or_default())?);
         }
         opcode::GET_POISON_LIST => {
             for name in ["address", "lines"] {
@@ -323,6 +354,12 @@ fn payload(code: u16, fields: &mut Fields) -> Result<Vec<u8>, String> {
         _ => {}
     }
     Ok(out)
+}
+
+/// A number of four bytes.
+fn four_bytes(fields: &mut Fields, name: &str) -> Result<[u8; 4], String> {
+    let value = fields.number(name, u32::MAX.into())?;
+    Ok((value as u32).to_le_bytes())
 }
 
 /// `id=`: the Command Effects Log's if not given.

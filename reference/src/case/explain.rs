@@ -86,6 +86,16 @@ fn in_words(record: Option<&Record>, answer: &Answer) -> Vec<String> {
             "damage total: {}",
             lines(answer.number("lines").unwrap_or(0))
         )],
+        Record::LabelArea { size } => {
+            let area = match size {
+                0 => "an empty label area".to_string(),
+                size => format!("the first {} of the label store", bytes((*size).into())),
+            };
+            vec![format!("lent from now on: {area}")]
+        }
+        Record::LabelBytes { offset, .. } => {
+            vec![label_words("label store", (*offset).into(), answer)]
+        }
         Record::Command {
             opcode,
             payload,
@@ -97,6 +107,9 @@ fn in_words(record: Option<&Record>, answer: &Answer) -> Vec<String> {
             let injects = *opcode == opcode::INJECT_POISON && answer.has("success");
             let vector = vector_words(answer, injects, injects);
             let mut out = vec![command_head(*opcode, answer) + &buffer + &vector];
+            if *opcode == opcode::SET_LSA && answer.has("success") {
+                out.push(written_words(payload));
+            }
             reply_words(*opcode, payload, answer, &mut out);
             out
         }
@@ -253,6 +266,10 @@ pub fn reply_words(code: u16, payload: &[u8], answer: &Answer, out: &mut Vec<Str
         opcode::GET_EVENT_RECORDS => event_words(payload, answer, &reply, out),
         opcode::GET_POLICY => policy_words(&reply, out),
         opcode::GET_POISON_LIST => poison_words(answer, &reply, out),
+        opcode::GET_LSA => {
+            let offset = payload.get(..4).map_or(0, number);
+            out.push(label_words("label area", offset, answer));
+        }
         opcode::GET_LOG => {
             if let Some(entries) = answer.field("entries") {
                 for entry in entries.split(',') {
@@ -270,6 +287,34 @@ pub fn reply_words(code: u16, payload: &[u8], answer: &Answer, out: &mut Vec<Str
                 }
             }
         }
+    }
+}
+
+/// Bytes that a Get LSA replied or the store showed, with their places.
+fn label_words(what: &str, offset: u64, answer: &Answer) -> String {
+    let data = answer.field("data").unwrap_or_default();
+    match data.len() as u64 / 2 {
+        0 => format!("{what}: no bytes"),
+        length => format!("{what}, {}: {data}", places(offset, length)),
+    }
+}
+
+/// What a Set LSA that was taken wrote.
+fn written_words(payload: &[u8]) -> String {
+    match payload.get(8..) {
+        Some([]) | None => "label area: nothing is written".to_string(),
+        Some(data) => {
+            let offset = number(&payload[..4]);
+            format!("label area, {} written", places(offset, data.len() as u64))
+        }
+    }
+}
+
+/// `byte 5`, `bytes 5 to 8`.
+fn places(offset: u64, length: u64) -> String {
+    match length {
+        1 => format!("byte {offset}"),
+        length => format!("bytes {offset} to {}", offset + length - 1),
     }
 }
 

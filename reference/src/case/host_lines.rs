@@ -111,12 +111,14 @@ fn request(fields: &mut Fields) -> Result<Request, String> {
         opcode::INJECT_POISON => Request::InjectPoison {
             address: fields.number("address", u64::MAX)?,
         },
-        _ => {
+        opcode::CLEAR_POISON => {
             let address = fields.number("address", u64::MAX)?;
             let data = fields.hex_or("data", 64, 0)?;
             let data = data.try_into().map_err(|_| "expected data= of 64 bytes")?;
             Request::ClearPoison { address, data }
         }
+        // "`RQ`, `RP` and `RW` know the twelve opcodes of document 01, whatever has landed."
+        _ => return Err("expected a command of document 01 (see `bytes`)".to_string()),
     })
 }
 

@@ -91,6 +91,7 @@ pub fn layout(code: u16) -> &'static [(&'static str, Part)] {
         opcode::GET_SUPPORTED_LOGS => GET_SUPPORTED_LOGS,
         opcode::GET_LOG => &[("data", HexFrom(0)), ("entries", Effects)],
         opcode::IDENTIFY => IDENTIFY,
+        opcode::GET_LSA => &[("data", HexFrom(0))],
         opcode::GET_POISON_LIST => GET_POISON_LIST,
         _ => &[],
     }

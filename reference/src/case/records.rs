@@ -25,6 +25,8 @@ impl Format {
             "line",
             "status",
             "total",
+            "label-area",
+            "label-bytes",
             host_lines::KINDS[0],
             host_lines::KINDS[1],
             host_lines::KINDS[2],

@@ -97,6 +97,10 @@ pub fn line_words(format: Format, record: &Record) -> String {
         Record::Line { address } => format!("line address={address}"),
         Record::Status => "status".to_string(),
         Record::Total => "total".to_string(),
+        Record::LabelArea { size } => format!("label-area size={size}"),
+        Record::LabelBytes { offset, length } => {
+            format!("label-bytes offset={offset} length={length}")
+        }
         record => host_lines::words(record),
     }
 }
@@ -153,6 +157,18 @@ pub fn payload_words(code: u16, payload: &[u8]) -> String {
             number(&payload[16..20]),
             number(&payload[20..])
         ),
+        (opcode::GET_LSA, 8) => format!(
+            " offset={} length={}",
+            number(&payload[..4]),
+            number(&payload[4..])
+        ),
+        (opcode::SET_LSA, 8..) => {
+            let mut words = format!(" offset={}", number(&payload[..4]));
+            if payload[4..8] != [0; 4] {
+                words.push_str(&format!(" reserved={}", hex_text(&payload[4..8])));
+            }
+            words + &format!(" data={}", hex_pieces(&payload[8..]))
+        }
         (opcode::GET_POISON_LIST, 16) => format!(
             " address={} lines={}",
             number(&payload[..8]),

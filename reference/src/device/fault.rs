@@ -71,6 +71,42 @@ pub enum Fault {
     ModeDisablesItsLog,
     ModeIs16h,
     SettingBitsReserved,
+    GetLabelsEnd(WrongEnd),
+    SetLabelsEnd(WrongEnd),
+    GetLabelsOffsetIn16Bits,
+    GetLabelsLengthIn16Bits,
+    SetLabelsOffsetIn16Bits,
+    GetLabelsOffsetIgnored,
+    SetLabelsOffsetIgnored,
+    GetLabelsOver2048Taken,
+    GetLabelsCutAt2048,
+    GetLabelsOf2048Refused,
+    GetLabelsOfNoneRefused,
+    GetLabelsLongerTaken,
+    GetLabelsClears,
+    SetLabelsOfNoDataIs16h,
+    SetLabelsShortTaken,
+    SetLabelsByteMore,
+    SetLabelsByteLess,
+    SetLabelsRestCleared,
+    SetLabelsReservedWritten,
+    SetLabelsOred,
+    SetLabelsWritesWhatFits,
+    SetLabelsReserved(WrongReserved),
+    SetLabelsHasReply,
+    SetLabelsReportsEvent,
+    LabelsNotKept,
+    RefusalClearsLabels,
+    SetTimestampClearsLabels,
+    ClearPoisonWritesLabels,
+    SetLabelsEffectIs0,
+    GetLabelsEffectIs6,
+    LabelsNotInEffectsLog,
+    LabelsLastInEffectsLog,
+    EffectsSizeIs48,
+    GetLogEndsAt48,
+    LabelSizeIs0,
+    LabelSizeIs2048,
     BytePastReply,
     BufferWrittenOnRefusal,
     RoomAfterOpcode,
@@ -110,6 +146,25 @@ pub enum Fault {
     InjectVectorOfCovered,
     RoomAfterReserved,
     ReservedBeforePayloadLimit,
+    AreaAfterOpcode,
+    AreaAfterLength,
+    AreaAfterOwnChecks,
+    AreaAfterChange,
+    AreaIs2h,
+    AreaLongerTaken,
+    AreaShorterTaken,
+    AreaOfNoneTaken,
+    AreaOfLabelsAlone,
+    AreaOfLastBytes,
+    AreaForOneCommand,
+    AreaClearsStore,
+    AreaClearsRest,
+    MakeClearsStore,
+    RefusedMakeClearsStore,
+    MakeLends4096,
+    LabelBytesOfLentAlone,
+    GetLabelsOldBytes,
+    SetLabelsHasVector,
     HostExactRoomRefused,
     HostWritesWhatFits,
     HandlesOver255Taken,
@@ -130,6 +185,7 @@ pub enum Fault {
     FlagBitsNotWritten,
     IdentifyZerosReserved,
     IdentifyLastSizeEarly,
+    IdentifyLabelSizeJudged,
     RoomBeforeReading,
     WalkOddLineFirst,
     WalkOddLineLost,
@@ -137,7 +193,36 @@ pub enum Fault {
     WalkFirstHalfTwice,
     WalkStopsAt126,
     WalkJoinsNeighbours,
+    WalkInLentArea,
     WalkRefusedIsEmpty,
+}
+
+/// How a fault judges the end of a range of labels.
+#[derive(Clone, Copy, Debug, PartialEq, Eq)]
+pub enum WrongEnd {
+    In32Bits,
+    In16Bits,
+    At4096Refused,
+    At4097Taken,
+    OfOffsetAlone,
+    OfNoneAt4096Refused,
+    OfNoneAnywhere,
+}
+
+/// How a fault judges the reserved bytes of Set LSA, or what it does then.
+#[derive(Clone, Copy, Debug, PartialEq, Eq)]
+pub enum WrongReserved {
+    Ignored,
+    IgnoredWithoutData,
+    /// By its place in the payload.
+    ByteIgnored(usize),
+    AddedIn8Bits,
+    AddedIn16Bits,
+    Xored,
+    NegativeTaken,
+    BeforeLength,
+    Is16h,
+    Writes,
 }
 
 /// A fault with its name for `--fault` and what it does.
@@ -536,7 +621,8 @@ pub const FAULTS: &[FaultLine] = &[
 ];
 
 /// The planted faults that probe alone can see: those about the lent buffer,
-/// about calls and answers that bench does not print, and about later makes.
+/// about calls and answers that bench does not print, about later makes and about label
+/// areas of any size.
 pub const PROBE_FAULTS: &[FaultLine] = &[
     line(
         Fault::BytePastReply,

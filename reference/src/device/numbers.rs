@@ -21,8 +21,10 @@ pub const EVENT_RECORDS: usize = (MAILBOX - 32) / RECORD;
 pub const POISON_ROOM: usize = 256;
 /// Records a Get Poison List reply has room for.
 pub const POISON_RECORDS: usize = 126;
+/// Bytes of the label area that the caller lends with each command (W-206).
+pub const LABEL_AREA: usize = 4096;
 
-/// The twelve opcodes.
+/// The opcodes: the twelve of document 01 and those that a landed request brought.
 pub mod opcode {
     pub const GET_EVENT_RECORDS: u16 = 0x0100;
     pub const CLEAR_EVENT_RECORDS: u16 = 0x0101;
@@ -33,11 +35,31 @@ pub mod opcode {
     pub const GET_SUPPORTED_LOGS: u16 = 0x0400;
     pub const GET_LOG: u16 = 0x0401;
     pub const IDENTIFY: u16 = 0x4000;
+    pub const GET_LSA: u16 = 0x4102;
+    pub const SET_LSA: u16 = 0x4103;
     pub const GET_POISON_LIST: u16 = 0x4300;
     pub const INJECT_POISON: u16 = 0x4301;
     pub const CLEAR_POISON: u16 = 0x4302;
     /// All of them, ascending.
-    pub const ALL: [u16; 12] = [
+    pub const ALL: [u16; 14] = [
+        GET_EVENT_RECORDS,
+        CLEAR_EVENT_RECORDS,
+        GET_POLICY,
+        SET_POLICY,
+        GET_TIMESTAMP,
+        SET_TIMESTAMP,
+        GET_SUPPORTED_LOGS,
+        GET_LOG,
+        IDENTIFY,
+        GET_LSA,
+        SET_LSA,
+        GET_POISON_LIST,
+        INJECT_POISON,
+        CLEAR_POISON,
+    ];
+    /// The twelve of document 01, ascending, which are those of the host's side "whatever
+    /// has landed" (document 10).
+    pub const HOST: [u16; 12] = [
         GET_EVENT_RECORDS,
         CLEAR_EVENT_RECORDS,
         GET_POLICY,

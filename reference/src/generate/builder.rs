@@ -1,13 +1,14 @@
 //! The stream under construction. It runs the model beside the stream, so that
 //! a profile can choose handles and lines by the state they will meet.
 
+use super::labels::{get_payload, set_payload};
 use super::reserved::spoil_clear;
 use crate::device::numbers::{opcode, MAILBOX, RECORD};
 use crate::device::poison::Entry;
 use crate::device::{Config, Device};
 use crate::format::Format;
 use crate::probe::record::{Record, MOST};
-use crate::probe::Probe;
+use crate::probe::{Probe, Store};
 use crate::random::Random;
 
 /// The payload of Clear Event Records: "log, flags, count n (one byte each), three
@@ -95,10 +96,16 @@ impl Builder {
         self.probe.device()
     }
 
+    /// The label store after the records so far.
+    pub fn labels(&self) -> &Store {
+        self.probe.labels()
+    }
+
     /// The reply that the model's device gives now; none if it refuses.
     pub fn reply(&self, code: u16, payload: &[u8]) -> Vec<u8> {
-        let reply = self.device().clone().answer(code, payload, 0);
-        reply.unwrap_or_default()
+        let labels = &mut self.labels().lent().to_vec();
+        let done = self.device().clone().run(code, payload, 0, labels);
+        done.map(|done| done.reply).unwrap_or_default()
     }
 
     /// Appends a record and runs it. Past a given limit nothing is appended.
@@ -288,6 +295,14 @@ impl Builder {
         self.command(opcode::GET_POISON_LIST, payload);
     }
 
+    pub fn get_labels(&mut self, offset: u32, length: u32) {
+        self.command(opcode::GET_LSA, get_payload(offset, length));
+    }
+
+    pub fn set_labels(&mut self, offset: u32, data: &[u8]) {
+        self.command(opcode::SET_LSA, set_payload(offset, [0; 4], data));
+    }
+
     /// The device's lines.
     pub fn device_lines(&self) -> u64 {
         self.device().lines() as u64
@@ -331,10 +346,18 @@ impl Builder {
         self.ask();
     }
 
+    /// Makes the label area visible, in reads of as much as a reply carries.
+    pub fn show_labels(&mut self) {
+        for offset in [0, MAILBOX as u32] {
+            self.get_labels(offset, MAILBOX as u32);
+        }
+    }
+
     /// Makes everything visible.
     pub fn show(&mut self) {
         self.show_events();
         self.show_poison();
+        self.show_labels();
     }
 
     /// A line at or beside an edge of an entry, inside the device.

@@ -2,6 +2,7 @@
 
 use super::builder::{clear_payload, Builder};
 use super::events::one_clear;
+use super::labels;
 use super::reserved::{some_settings, spoil_clear};
 use crate::device::numbers::opcode;
 use crate::device::EFFECTS_IDENTIFIER;
@@ -26,6 +27,8 @@ pub fn plausible_payload(b: &mut Builder, code: u16) -> Vec<u8> {
         }
         opcode::SET_TIMESTAMP => b.random.bytes(8),
         opcode::GET_LOG => get_log_payload(0, 16),
+        opcode::GET_LSA => labels::any_get(b),
+        opcode::SET_LSA => labels::any_set(b),
         opcode::GET_POISON_LIST => {
             let mut payload = (line * 64).to_le_bytes().to_vec();
             payload.extend(b.random.below(300).to_le_bytes());
@@ -139,22 +142,22 @@ fn get_log_payload(offset: u32, length: u32) -> Vec<u8> {
 pub fn get_log(b: &mut Builder) {
     b.any_device();
     b.command(opcode::GET_SUPPORTED_LOGS, vec![]);
-    let mut edges: Vec<u32> = (0..=52).collect();
+    let mut edges: Vec<u32> = (0..=60).collect();
     for centre in [1u32 << 11, 1 << 12, 1 << 16, 1 << 31] {
         edges.extend([centre - 1, centre, centre + 1]);
     }
-    edges.extend((0..=52).map(|below| u32::MAX - below));
-    for at in 0..=52u32 {
+    edges.extend((0..=60).map(|below| u32::MAX - below));
+    for at in 0..=60u32 {
         // The lengths around the one that ends at the log's end.
-        for length in [48u32.saturating_sub(at), 49u32.saturating_sub(at), 0, 1] {
+        for length in [56u32.saturating_sub(at), 57u32.saturating_sub(at), 0, 1] {
             b.command(opcode::GET_LOG, get_log_payload(at, length));
         }
         // An offset and a length whose sum wraps in 32 bits.
-        let wrapped = get_log_payload(u32::MAX - at, at + 48);
+        let wrapped = get_log_payload(u32::MAX - at, at + 56);
         b.command(opcode::GET_LOG, wrapped);
     }
     for at in 0..16 {
-        for length in [0, 48, 49, 2049] {
+        for length in [0, 56, 57, 2049] {
             let mut payload = get_log_payload(0, length);
             payload[at] ^= b.random.pick(&[1, 0x80, 0xff]);
             b.command(opcode::GET_LOG, payload);

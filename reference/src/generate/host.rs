@@ -35,7 +35,7 @@ pub fn requests(b: &mut Builder) {
 /// A request with any fields.
 fn any_request(b: &mut Builder) -> Request {
     let (address, lines) = (any_address(b), any_number(b));
-    match b.random.pick(&opcode::ALL) {
+    match b.random.pick(&opcode::HOST) {
         opcode::GET_EVENT_RECORDS => Request::GetEventRecords {
             log: b.random.pick(&[0, 1, 2, 3, 4, 5, 255]),
         },
@@ -138,7 +138,7 @@ pub fn replies(b: &mut Builder) {
     every_reserved_bit(b);
     b.set_target(1000);
     while b.more() {
-        let code = b.random.pick(&opcode::ALL);
+        let code = b.random.pick(&opcode::HOST);
         let (mut asked, mut reply) = well_formed(b, code);
         let change = b.random.below(12);
         match change {
@@ -309,16 +309,16 @@ pub fn device_replies(b: &mut Builder) {
     busy_device(b);
     b.set_target(700);
     while b.more() {
-        let code = b.random.pick(&opcode::ALL);
+        let code = b.random.pick(&opcode::HOST);
         let mut payload = plausible_payload(b, code);
         if code == opcode::GET_POISON_LIST && b.random.one_in(6) {
             payload = [0, b.device_lines()].map(u64::to_le_bytes).concat();
         }
         let asked = match code {
             opcode::GET_LOG => {
-                let length = b.random.below(49) as u32;
+                let length = b.random.below(57) as u32;
                 payload[20..24].copy_from_slice(&length.to_le_bytes());
-                payload[16] = b.random.below(49 - u64::from(length)) as u8;
+                payload[16] = b.random.below(57 - u64::from(length)) as u8;
                 length
             }
             _ => 0,
@@ -487,7 +487,7 @@ pub fn host_step(b: &mut Builder) {
             push_request(b, &request);
         }
         1 => {
-            let code = b.random.pick(&opcode::ALL);
+            let code = b.random.pick(&opcode::HOST);
             let (asked, mut reply) = well_formed(b, code);
             if b.random.one_in(3) {
                 set_any(b, &mut reply);

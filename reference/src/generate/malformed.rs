@@ -152,14 +152,14 @@ type Bad = fn(&mut Builder, &[Record], usize);
 
 /// The kinds of bad probe streams, with the number of streams of each.
 const PROBE_KINDS: [(usize, Bad); 6] = [
-    (10 + 8, wrong_first),
+    (10 + 8 + 2, wrong_first),
     (3 * UNKNOWN.len(), unknown_mark),
     (27, over_limit),
-    (3 * HOST_SIZES.len(), host_sizes),
+    (3 * REQUEST_SIZES.len(), request_sizes),
     (6, cut_great),
     // One of each record, and a later NW.
     (
-        6 + 17 + 25 + 141 + 23 + 10 + 2 + 2 + (15 + 13 + 31 + 79 + 7 + 18 + 21 + 23) + 6,
+        6 + 17 + 25 + 141 + 23 + 10 + 2 + 2 + (15 + 13 + 31 + 79 + 7 + 18 + 21 + 23) + (6 + 6) + 6,
         cut,
     ),
 ];
@@ -180,6 +180,13 @@ pub fn probe(b: &mut Builder, part: usize) {
     let later = records[0].clone();
     records.extend([Record::Status, Record::Total]);
     records.extend(one_of_each_of_host(b));
+    records.extend([
+        Record::LabelArea { size: 4096 },
+        Record::LabelBytes {
+            offset: 1,
+            length: 2,
+        },
+    ]);
     records.push(later);
     let mut part = part % PROBE_STREAMS;
     for (streams, make) in PROBE_KINDS {
@@ -259,8 +266,8 @@ fn wrong_first(b: &mut Builder, records: &[Record], part: usize) {
 
 /// Marks that are not there: those of later requests, lower-case ones, others.
 const UNKNOWN: [&[u8; 2]; 31] = [
-    b"AR",
-    b"AB",
+    b"ar",
+    b"ab",
     b"PC",
     b"TT",
     b"UM",
@@ -325,9 +332,24 @@ fn over_limit(b: &mut Builder, records: &[Record], part: usize) {
     }
 }
 
-/// Heads of records of the host's side with a size over its limit, an n that 0103h does
-/// not have or an opcode that the record does not know.
-const HOST_SIZES: [&[u8]; 18] = [
+/// Heads of records that a request brings with a size over its limit, an n that 0103h does
+/// not have or an opcode that the record does not know. The sizes of AR and AB are those
+/// just over 8,192 and those that are not over it in 16 bits.
+const REQUEST_SIZES: [&[u8]; 32] = [
+    b"AR\x01\x20\x00\x00",
+    b"AR\x00\x20\x01\x00",
+    b"AR\x00\x10\x00\x80",
+    b"AR\xff\xff\xff\xff",
+    b"AB\x00\x20\x01\x00",
+    b"AB\x00\x00\x01\x20",
+    b"AB\x01\x00\x00\x20",
+    b"AB\x00\x10\x01\x10",
+    b"AB\xff\xff\x01\x00",
+    b"AB\x00\x80\x00\x80",
+    b"AB\xff\xff\xff\xff",
+    b"RQ\x03\x41\x00\x10\xaa",
+    b"RP\x02\x41\x00\x00\x00\x00\x00\x00",
+    b"RW\x03\x41\x00\x00\x00\x00\x00\x10\xaa\x00\x00",
     b"RQ\x00\x40\x01\x10\xaa",
     b"RQ\x00\x40\xff\xff\xaa",
     b"RQ\x01\x01\x00\x10\xaa\x00\x00\xe9\x03",
@@ -349,9 +371,9 @@ const HOST_SIZES: [&[u8]; 18] = [
 ];
 
 /// Such a head with nothing, few or enough bytes after it.
-fn host_sizes(b: &mut Builder, records: &[Record], part: usize) {
+fn request_sizes(b: &mut Builder, records: &[Record], part: usize) {
     some_records(b);
-    b.push_bytes(HOST_SIZES[part / 3]);
+    b.push_bytes(REQUEST_SIZES[part / 3]);
     b.push_bytes(&vec![0; [0, 9, MOST + 1][part % 3]]);
     push_record(b, &records[0]);
 }

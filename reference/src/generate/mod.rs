@@ -6,6 +6,7 @@ pub mod commands;
 pub mod events;
 pub mod host;
 pub mod interrupts;
+pub mod labels;
 pub mod malformed;
 pub mod poison;
 pub mod probe;
@@ -308,7 +309,7 @@ pub const PROBE_PROFILES: &[Profile] = &[
         "malformed",
         malformed::PROBE_STREAMS,
         malformed::probe,
-        "bad streams of every kind, marks of later requests, a cut at every place (637 streams)",
+        "bad streams of every kind, marks of later requests, a cut at every place (693 streams)",
     ),
     one(
         "everything",

@@ -104,7 +104,7 @@ pub fn layout(code: u16) -> Option<Layout> {
         opcode::IDENTIFY => IDENTITY,
         opcode::GET_POISON_LIST => POISON_LIST,
         // "Commands for which no reply is named reply length 0."
-        code if opcode::ALL.contains(&code) => Layout::Fixed(&[]),
+        code if opcode::HOST.contains(&code) => Layout::Fixed(&[]),
         _ => return None,
     })
 }

@@ -2,7 +2,7 @@
 
 use super::layout::{layout, size_of, Field, Layout};
 use super::put;
-use crate::device::numbers::{number, opcode, Refusal, MAILBOX};
+use crate::device::numbers::{number, opcode, Refusal, LABEL_AREA, MAILBOX};
 use crate::device::{Config, Fault};
 
 /// What a field of a reply holds.
@@ -82,10 +82,16 @@ fn faulty_read(
         return Err(Unread::Reserved(0));
     }
     if code == opcode::IDENTIFY && config.has(Fault::IdentifyZerosReserved) {
-        // Alignment, label size, "0 in 2" and "two zero bytes".
-        let mut zeros = (40..48).chain(56..60).chain(63..67);
+        // Alignment, "0 in 2" and "two zero bytes".
+        let mut zeros = (40..48).chain(63..67);
         if let Some(place) = zeros.find(|place| bytes[*place] != 0) {
             return Err(Unread::Reserved(place));
+        }
+    }
+    if code == opcode::IDENTIFY && config.has(Fault::IdentifyLabelSizeJudged) {
+        // The device's own label size (W-206).
+        if number(&bytes[56..60]) != LABEL_AREA as u64 {
+            return Err(Unread::Reserved(56));
         }
     }
     let mut reply = fields(code, layout, bytes, config).map_err(|unread| match unread {

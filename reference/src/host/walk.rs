@@ -4,7 +4,7 @@
 
 use super::put;
 use super::request::Request;
-use crate::device::numbers::{number, Refusal, MAILBOX};
+use crate::device::numbers::{number, Refusal, LABEL_AREA, MAILBOX};
 use crate::device::{Config, Device, Fault};
 
 /// A reply of Get Poison List has its records after this many bytes.
@@ -82,11 +82,13 @@ fn part(
     Ok(())
 }
 
-/// The reply of Get Poison List through the mailbox.
+/// The reply of Get Poison List through the mailbox, with a label area of the right size:
+/// "`WK` .. is not touched by `AR`" (document 10).
 fn ask(device: &mut Device, address: u64, lines: u64) -> Result<Vec<u8>, Refusal> {
     let request = Request::GetPoisonList { address, lines };
-    let mut mailbox = [0; MAILBOX];
-    let answer = device.command(request.code(), &request.payload(), 0, &mut mailbox);
+    let (mut labels, mut mailbox) = ([0; LABEL_AREA], [0; MAILBOX]);
+    let payload = request.payload();
+    let answer = device.command(request.code(), &payload, 0, &mut labels, &mut mailbox);
     match Refusal::of(answer.number) {
         Some(refusal) => Err(refusal),
         None => Ok(mailbox[..answer.length].to_vec()),

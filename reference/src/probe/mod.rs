@@ -5,4 +5,4 @@ pub mod host;
 pub mod record;
 pub mod run;
 
-pub use run::{lines_of, run, Probe};
+pub use run::{lines_of, run, Probe, Store};

@@ -11,6 +11,8 @@ use std::io::{self, BufRead};
 
 /// "Limits: room, payload length and record length at most 4,096 each."
 pub const MOST: usize = 4096;
+/// "a store of 8,192 bytes": the most that `AR` lends and where `AB` ends (W-206).
+pub const LABEL_STORE: usize = 8192;
 
 /// One record of a probe stream.
 #[derive(Clone, Debug, PartialEq, Eq)]
@@ -69,6 +71,15 @@ pub enum Record {
         room: u32,
         fill: u8,
     },
+    /// W-206: how many bytes of the label store are lent from now on.
+    LabelArea {
+        size: u32,
+    },
+    /// W-206: bytes of the label store.
+    LabelBytes {
+        offset: u16,
+        length: u16,
+    },
 }
 
 impl Record {
@@ -86,6 +97,8 @@ impl Record {
             Record::Reply { .. } => "RP",
             Record::Rewrite { .. } => "RW",
             Record::Walk { .. } => "WK",
+            Record::LabelArea { .. } => "AR",
+            Record::LabelBytes { .. } => "AB",
         }
     }
 
@@ -141,6 +154,11 @@ impl Record {
                 out.extend(lines.to_le_bytes());
                 out.extend(room.to_le_bytes());
                 out.push(*fill);
+            }
+            Record::LabelArea { size } => out.extend(size.to_le_bytes()),
+            Record::LabelBytes { offset, length } => {
+                out.extend(offset.to_le_bytes());
+                out.extend(length.to_le_bytes());
             }
             _ => {}
         }
@@ -240,6 +258,8 @@ impl<R: BufRead> Reader<R> {
                 b"RP" => host::reply(source),
                 b"RW" => host::rewrite(source),
                 b"WK" => host::walk(source),
+                b"AR" => label_area(source),
+                b"AB" => label_bytes(source),
                 _ => Ok(stream::fixed(source, mark)?.map(Record::from)),
             }
         })
@@ -314,6 +334,25 @@ fn event<R: BufRead>(source: &mut Source<R>) -> io::Result<Option<Record>> {
         time: number(&head[..8]),
         log: head[8],
         record,
+    }))
+}
+
+/// AR after its mark, or None if cut or over its limit: "sizes of `AR` at most 8,192".
+fn label_area<R: BufRead>(source: &mut Source<R>) -> io::Result<Option<Record>> {
+    let size = source.fields::<4>()?.map(|b| number(&b));
+    let size = size.filter(|size| *size <= LABEL_STORE as u64);
+    Ok(size.map(|size| Record::LabelArea { size: size as u32 }))
+}
+
+/// AB after its mark, or None if cut or over its limit: "offset plus length of `AB` at most
+/// 8,192".
+fn label_bytes<R: BufRead>(source: &mut Source<R>) -> io::Result<Option<Record>> {
+    let fields = source.fields::<4>()?;
+    let fields = fields.map(|b| (number(&b[..2]), number(&b[2..])));
+    let fields = fields.filter(|(offset, length)| offset + length <= LABEL_STORE as u64);
+    Ok(fields.map(|(offset, length)| Record::LabelBytes {
+        offset: offset as u16,
+        length: length as u16,
     }))
 }
 

@@ -1,8 +1,8 @@
 //! Document 10: records in, a line for each out, every answer whole.
 
-use super::record::{Reader, Record};
+use super::record::{Reader, Record, LABEL_STORE};
 use crate::device::logs::Reported;
-use crate::device::numbers::number_of;
+use crate::device::numbers::{number_of, Refusal, LABEL_AREA};
 use crate::device::{Config, Device, Fault, LineAnswer};
 use crate::host::reply::{read, write_again, Unread, Value};
 use crate::host::walk::walk;
@@ -32,10 +32,11 @@ pub fn lines_of(stream: &[u8], config: Config) -> Vec<u8> {
     output
 }
 
-/// The device under the probe and the line of the last record.
+/// The device under the probe, the label store beside it and the line of the last record.
 pub struct Probe {
     config: Config,
     device: Device,
+    labels: Store,
     /// The line of the last step, with its line end.
     pub line: Line,
 }
@@ -46,6 +47,7 @@ impl Probe {
         Probe {
             config,
             device: Device::make(1, 0, config).1,
+            labels: Store::default(),
             line: Line::default(),
         }
     }
@@ -53,6 +55,11 @@ impl Probe {
     /// The device as it is.
     pub fn device(&self) -> &Device {
         &self.device
+    }
+
+    /// The label store as it is.
+    pub fn labels(&self) -> &Store {
+        &self.labels
     }
 
     /// Runs one record and sets `line`.
@@ -71,7 +78,12 @@ impl Probe {
                 payload,
             } => {
                 let mut buffer = vec![*fill; usize::from(*room)];
-                let answer = self.device.command(*opcode, payload, *time, &mut buffer);
+                let labels = self.labels.lent_mut(self.config);
+                let device = &mut self.device;
+                let answer = device.command(*opcode, payload, *time, labels, &mut buffer);
+                if self.config.has(Fault::AreaForOneCommand) {
+                    self.labels.size = LABEL_AREA;
+                }
                 self.answer((answer.number, answer.length), &buffer, *fill);
                 self.vector(answer.vector);
             }
@@ -113,7 +125,13 @@ impl Probe {
                 let answer = write_again(*opcode, *asked, reply, &mut buffer, self.config);
                 self.answer(answer.expect("a known opcode"), &buffer, *fill);
             }
-            // "`WK` carries no time .. and leaves the device as it is."
+            Record::LabelArea { size } => self.labels.lend(*size as usize, self.config),
+            Record::LabelBytes { offset, length } => {
+                let bytes = self.labels.shown(*offset, *length, self.config);
+                self.bytes(&bytes);
+            }
+            // "`WK` carries no time, is not touched by `AR` .. and leaves the device as it
+            // is."
             Record::Walk {
                 address,
                 lines,
@@ -121,7 +139,11 @@ impl Probe {
                 fill,
             } => {
                 let mut buffer = vec![*fill; *room as usize];
-                let answer = walk(&self.device, *address, *lines, &mut buffer, self.config);
+                let faulty = self.config.has(Fault::WalkInLentArea);
+                let answer = match faulty && self.labels.size != LABEL_AREA {
+                    true => (Refusal::ReplyBufferTooSmall.number(), 0),
+                    false => walk(&self.device, *address, *lines, &mut buffer, self.config),
+                };
                 self.answer(answer, &buffer, *fill);
             }
         }
@@ -130,10 +152,16 @@ impl Probe {
 
     /// "A later make puts a new device in the place of the old one. A refused
     /// make prints its number, and the device that came beside it is used from
-    /// then on."
+    /// then on." "A make leaves the label store, the size lent .. as they are."
     fn make(&mut self, volatile: u16, persistent: u16) {
         let (answer, device) = self.device.clone().make_again(volatile, persistent);
         self.device = device;
+        match self.config.fault {
+            Some(Fault::MakeClearsStore) => self.labels.bytes.fill(0),
+            Some(Fault::RefusedMakeClearsStore) if answer.is_err() => self.labels.bytes.fill(0),
+            Some(Fault::MakeLends4096) => self.labels.size = LABEL_AREA,
+            _ => {}
+        }
         self.line.number(number_of(&answer));
     }
 
@@ -218,5 +246,61 @@ impl Probe {
         let (said, kind) = answer.as_ref().unwrap_or(&refused).numbers();
         let number = number_of(&answer).into();
         self.line.numbers([number, said.into(), kind.into()]);
+    }
+}
+
+/// The label store: "the first ones of a store of 8,192 bytes, zero at first and kept
+/// whatever is lent of it. Before any `AR` 4,096 are lent".
+#[derive(Clone, Debug, PartialEq, Eq)]
+pub struct Store {
+    bytes: Vec<u8>,
+    size: usize,
+}
+
+impl Default for Store {
+    fn default() -> Self {
+        Store {
+            bytes: vec![0; LABEL_STORE],
+            size: LABEL_AREA,
+        }
+    }
+}
+
+impl Store {
+    /// All bytes of the store.
+    pub fn bytes(&self) -> &[u8] {
+        &self.bytes
+    }
+
+    /// The bytes that are lent with a command.
+    pub fn lent(&self) -> &[u8] {
+        &self.bytes[..self.size]
+    }
+
+    fn lent_mut(&mut self, config: Config) -> &mut [u8] {
+        match config.has(Fault::AreaOfLastBytes) {
+            true => &mut self.bytes[LABEL_STORE - self.size..],
+            false => &mut self.bytes[..self.size],
+        }
+    }
+
+    /// "from now on the label area lent has that many bytes"
+    fn lend(&mut self, size: usize, config: Config) {
+        self.size = size;
+        match config.fault {
+            Some(Fault::AreaClearsStore) => self.bytes.fill(0),
+            Some(Fault::AreaClearsRest) => self.bytes[size..].fill(0),
+            _ => {}
+        }
+    }
+
+    /// "those bytes of the store"
+    fn shown(&self, offset: u16, length: u16, config: Config) -> Vec<u8> {
+        let (from, length) = (usize::from(offset), usize::from(length));
+        let mut bytes = self.bytes.clone();
+        if config.has(Fault::LabelBytesOfLentAlone) {
+            bytes[self.size..].fill(0);
+        }
+        bytes[from..from + length].to_vec()
     }
 }
