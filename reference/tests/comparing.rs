@@ -3,7 +3,7 @@
 
 mod common;
 
-use common::each_step;
+use common::{each_step, rightly_lent};
 use reference::case::answer::answer;
 use reference::compare::{find_faults, run, without_host, Plan, Subject};
 use reference::device::events::EventLog;
@@ -77,7 +77,7 @@ fn profiles_say_how_many_streams_they_have() {
     }
 }
 
-/// At least as many seeds for each as the default of 276 gave before W-205 brought its
+/// At least as many seeds for each as there were before W-205 and W-206 brought their
 /// profiles: 9 or 10 of bench, 6 or 7 of probe.
 #[test]
 fn every_profile_has_its_seeds() {
@@ -452,7 +452,10 @@ fn situations(format: Format) -> std::collections::BTreeMap<String, usize> {
         }
         let mut injected = false;
         each_step(format, profile, seed, |record, before, after| {
-            let vector = last_column(after.line.as_bytes());
+            let vector = match record {
+                Record::Event { .. } | Record::Command { .. } => last_column(after.line.as_bytes()),
+                _ => 0,
+            };
             let mut count = |what: String| *found.entry(what).or_insert(0) += 1;
             let state = |log: usize| state(before.log(log));
             match record {
@@ -584,24 +587,18 @@ fn reserved_situations(format: Format) -> std::collections::BTreeMap<String, usi
         if !names.contains(&profile.name) {
             continue;
         }
-        each_step(format, profile, seed, |record, before, _| {
+        each_step(format, profile, seed, |record, before, after| {
             let mut count = |what: String| *found.entry(what).or_insert(0) += 1;
-            let Record::Command {
-                opcode: code,
-                room: 2048..,
-                payload,
-                ..
-            } = record
-            else {
+            let Some((code, payload)) = rightly_lent(record, after) else {
                 return;
             };
-            match (*code, payload.len()) {
+            match (code, payload.len()) {
                 (opcode::CLEAR_EVENT_RECORDS, 6..) => {
                     let zeros = [
                         &[payload[0], payload[1] & 1, payload[2], 0, 0, 0],
                         &payload[6..],
                     ];
-                    let number = number_of(before, *code, &zeros.concat());
+                    let number = number_of(before, code, &zeros.concat());
                     let all = match payload[1] & 1 {
                         0 => "by handles",
                         _ => "all",
@@ -620,7 +617,7 @@ fn reserved_situations(format: Format) -> std::collections::BTreeMap<String, usi
                 }
                 (opcode::SET_POLICY, length) => {
                     let bad = |setting: &&u8| **setting & 3 >= 2;
-                    let number = number_of(before, *code, payload);
+                    let number = number_of(before, code, payload);
                     match payload.iter().filter(bad).count() {
                         0 => count(format!("{}: set, {number}", profile.name)),
                         1 => {

@@ -3,13 +3,12 @@
 
 mod common;
 
-use common::each_step;
+use common::{each_step, rightly_lent};
 use reference::device::numbers::{opcode, Refusal, LABEL_AREA};
 use reference::device::{Answered, Config, Device};
 use reference::format::Format;
 use reference::generate::profile_named;
 use reference::host::request::Request;
-use reference::probe::record::Record;
 
 const SUCCESS: Result<Vec<u8>, Refusal> = Ok(Vec::new());
 const REFUSED: Result<Vec<u8>, Refusal> = Err(Refusal::InvalidInput);
@@ -417,16 +416,10 @@ fn it_holds_after_generated_calls() {
     {
         let profile = profile_named(Format::Probe, name).unwrap();
         each_step(Format::Probe, profile, seed, |record, before, after| {
-            let Record::Command {
-                opcode: code,
-                room: 2048..,
-                payload,
-                ..
-            } = record
-            else {
+            let Some((code, payload)) = rightly_lent(record, after) else {
                 return;
             };
-            let reserved = match (*code, &payload[..]) {
+            let reserved = match (code, payload) {
                 (opcode::CLEAR_EVENT_RECORDS, [_, flags, n, a, b, c, handles @ ..])
                     if handles.len() == 2 * usize::from(*n) =>
                 {
@@ -442,11 +435,11 @@ fn it_holds_after_generated_calls() {
             if reserved {
                 assert_eq!(line, "CM 2 0 - 1 0\n", "{name}: {record:?}");
                 assert_eq!(after.device(), before, "{name}: {record:?}");
-                match *code {
+                match code {
                     opcode::SET_POLICY => sets += 1,
                     _ => clears += 1,
                 }
-            } else if *code == opcode::SET_POLICY {
+            } else if code == opcode::SET_POLICY {
                 assert_eq!(line, "CM 0 0 - 1 0\n", "{name}: {record:?}");
             }
         });

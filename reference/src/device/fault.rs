@@ -618,6 +618,306 @@ pub const FAULTS: &[FaultLine] = &[
         "setting-bits-reserved",
         "bits 2 to 7 of a policy byte are refused too",
     ),
+    line(
+        Fault::GetLabelsEnd(WrongEnd::In32Bits),
+        "get-labels-end-in-32-bits",
+        "the end of a Get LSA is added up in 32 bits",
+    ),
+    line(
+        Fault::GetLabelsEnd(WrongEnd::In16Bits),
+        "get-labels-end-in-16-bits",
+        "the end of a Get LSA is added up in 16 bits",
+    ),
+    line(
+        Fault::GetLabelsEnd(WrongEnd::At4096Refused),
+        "get-labels-end-4096-refused",
+        "a Get LSA up to the area's end is refused",
+    ),
+    line(
+        Fault::GetLabelsEnd(WrongEnd::At4097Taken),
+        "get-labels-end-4097-taken",
+        "a Get LSA one byte past the area's end is taken",
+    ),
+    line(
+        Fault::GetLabelsEnd(WrongEnd::OfOffsetAlone),
+        "get-labels-end-of-offset-alone",
+        "a Get LSA is judged by its offset alone",
+    ),
+    line(
+        Fault::GetLabelsEnd(WrongEnd::OfNoneAt4096Refused),
+        "get-labels-of-none-at-4096-refused",
+        "a Get LSA of no bytes at offset 4,096 is refused",
+    ),
+    line(
+        Fault::GetLabelsEnd(WrongEnd::OfNoneAnywhere),
+        "get-labels-of-none-anywhere",
+        "a Get LSA of no bytes is taken at any offset",
+    ),
+    line(
+        Fault::SetLabelsEnd(WrongEnd::In32Bits),
+        "set-labels-end-in-32-bits",
+        "the end of a Set LSA is added up in 32 bits",
+    ),
+    line(
+        Fault::SetLabelsEnd(WrongEnd::In16Bits),
+        "set-labels-end-in-16-bits",
+        "the end of a Set LSA is added up in 16 bits",
+    ),
+    line(
+        Fault::SetLabelsEnd(WrongEnd::At4096Refused),
+        "set-labels-end-4096-refused",
+        "a Set LSA up to the area's end is refused",
+    ),
+    line(
+        Fault::SetLabelsEnd(WrongEnd::At4097Taken),
+        "set-labels-end-4097-taken",
+        "a Set LSA one byte past the area's end is taken",
+    ),
+    line(
+        Fault::SetLabelsEnd(WrongEnd::OfOffsetAlone),
+        "set-labels-end-of-offset-alone",
+        "a Set LSA is judged by its offset alone",
+    ),
+    line(
+        Fault::SetLabelsEnd(WrongEnd::OfNoneAt4096Refused),
+        "set-labels-of-none-at-4096-refused",
+        "a Set LSA of no bytes at offset 4,096 is refused",
+    ),
+    line(
+        Fault::SetLabelsEnd(WrongEnd::OfNoneAnywhere),
+        "set-labels-of-none-anywhere",
+        "a Set LSA of no bytes is taken at any offset",
+    ),
+    line(
+        Fault::GetLabelsOffsetIn16Bits,
+        "get-labels-offset-in-16-bits",
+        "the offset of Get LSA is read from its low two bytes",
+    ),
+    line(
+        Fault::GetLabelsLengthIn16Bits,
+        "get-labels-length-in-16-bits",
+        "the length of Get LSA is read from its low two bytes",
+    ),
+    line(
+        Fault::SetLabelsOffsetIn16Bits,
+        "set-labels-offset-in-16-bits",
+        "the offset of Set LSA is read from its low two bytes",
+    ),
+    line(
+        Fault::GetLabelsOffsetIgnored,
+        "get-labels-offset-ignored",
+        "Get LSA replies the area's first bytes, whatever its offset",
+    ),
+    line(
+        Fault::SetLabelsOffsetIgnored,
+        "set-labels-offset-ignored",
+        "Set LSA writes the area's first bytes, whatever its offset",
+    ),
+    line(
+        Fault::GetLabelsOver2048Taken,
+        "get-labels-over-2048-taken",
+        "Get LSA takes a length over 2,048",
+    ),
+    line(
+        Fault::GetLabelsCutAt2048,
+        "get-labels-cut-at-2048",
+        "Get LSA replies the first 2,048 bytes of a longer range",
+    ),
+    line(
+        Fault::GetLabelsOf2048Refused,
+        "get-labels-of-2048-refused",
+        "Get LSA refuses a length of 2,048",
+    ),
+    line(
+        Fault::GetLabelsOfNoneRefused,
+        "get-labels-of-none-refused",
+        "Get LSA refuses a length of 0",
+    ),
+    line(
+        Fault::GetLabelsLongerTaken,
+        "get-labels-longer-taken",
+        "Get LSA takes a payload over 8 bytes",
+    ),
+    line(
+        Fault::GetLabelsClears,
+        "get-labels-clears",
+        "Get LSA clears the bytes that it reads",
+    ),
+    line(
+        Fault::SetLabelsOfNoDataIs16h,
+        "set-labels-of-no-data-is-16h",
+        "a Set LSA without data is refused with 0016h",
+    ),
+    line(
+        Fault::SetLabelsShortTaken,
+        "set-labels-short-taken",
+        "a Set LSA of 4 to 7 bytes is taken as one without data",
+    ),
+    line(
+        Fault::SetLabelsByteMore,
+        "set-labels-byte-more",
+        "Set LSA sets the byte after its data to 0",
+    ),
+    line(
+        Fault::SetLabelsByteLess,
+        "set-labels-byte-less",
+        "Set LSA does not write the last byte of its data",
+    ),
+    line(
+        Fault::SetLabelsRestCleared,
+        "set-labels-rest-cleared",
+        "Set LSA clears the area after its data",
+    ),
+    line(
+        Fault::SetLabelsReservedWritten,
+        "set-labels-reserved-written",
+        "Set LSA writes its reserved bytes before its data",
+    ),
+    line(
+        Fault::SetLabelsOred,
+        "set-labels-ored",
+        "Set LSA sets bits and clears none",
+    ),
+    line(
+        Fault::SetLabelsWritesWhatFits,
+        "set-labels-writes-what-fits",
+        "a Set LSA past the area's end writes what fits before 0002h",
+    ),
+    line(
+        Fault::SetLabelsReserved(WrongReserved::Ignored),
+        "set-labels-reserved-ignored",
+        "the reserved bytes of Set LSA are not looked at",
+    ),
+    line(
+        Fault::SetLabelsReserved(WrongReserved::IgnoredWithoutData),
+        "set-labels-reserved-ignored-without-data",
+        "the reserved bytes of a Set LSA without data are not looked at",
+    ),
+    line(
+        Fault::SetLabelsReserved(WrongReserved::ByteIgnored(4)),
+        "set-labels-byte-4-ignored",
+        "reserved byte 4 of Set LSA is not looked at",
+    ),
+    line(
+        Fault::SetLabelsReserved(WrongReserved::ByteIgnored(5)),
+        "set-labels-byte-5-ignored",
+        "reserved byte 5 of Set LSA is not looked at",
+    ),
+    line(
+        Fault::SetLabelsReserved(WrongReserved::ByteIgnored(6)),
+        "set-labels-byte-6-ignored",
+        "reserved byte 6 of Set LSA is not looked at",
+    ),
+    line(
+        Fault::SetLabelsReserved(WrongReserved::ByteIgnored(7)),
+        "set-labels-byte-7-ignored",
+        "reserved byte 7 of Set LSA is not looked at",
+    ),
+    line(
+        Fault::SetLabelsReserved(WrongReserved::AddedIn8Bits),
+        "set-labels-reserved-added-in-8-bits",
+        "the reserved bytes of Set LSA are added up in 8 bits",
+    ),
+    line(
+        Fault::SetLabelsReserved(WrongReserved::AddedIn16Bits),
+        "set-labels-reserved-added-in-16-bits",
+        "the reserved bytes of Set LSA are added up as two numbers in 16 bits",
+    ),
+    line(
+        Fault::SetLabelsReserved(WrongReserved::Xored),
+        "set-labels-reserved-xored",
+        "the reserved bytes of Set LSA are joined by exclusive or",
+    ),
+    line(
+        Fault::SetLabelsReserved(WrongReserved::NegativeTaken),
+        "set-labels-reserved-negative-taken",
+        "Set LSA takes a byte 7 over 127, as the sign of a reserved number",
+    ),
+    line(
+        Fault::SetLabelsReserved(WrongReserved::BeforeLength),
+        "set-labels-reserved-before-length",
+        "Set LSA gives 0002h for reserved bytes before 0016h",
+    ),
+    line(
+        Fault::SetLabelsReserved(WrongReserved::Is16h),
+        "set-labels-reserved-is-16h",
+        "Set LSA gives 0016h for reserved bytes",
+    ),
+    line(
+        Fault::SetLabelsReserved(WrongReserved::Writes),
+        "set-labels-reserved-writes",
+        "a Set LSA that is refused for reserved bytes writes its data",
+    ),
+    line(
+        Fault::SetLabelsHasReply,
+        "set-labels-has-reply",
+        "Set LSA replies its data",
+    ),
+    line(
+        Fault::SetLabelsReportsEvent,
+        "set-labels-reports-event",
+        "Set LSA reports an event to log 0",
+    ),
+    line(
+        Fault::LabelsNotKept,
+        "labels-not-kept",
+        "every command is lent an area of zeros",
+    ),
+    line(
+        Fault::RefusalClearsLabels,
+        "refusal-clears-labels",
+        "a refused command clears the label area",
+    ),
+    line(
+        Fault::SetTimestampClearsLabels,
+        "set-timestamp-clears-labels",
+        "Set Timestamp clears the label area",
+    ),
+    line(
+        Fault::ClearPoisonWritesLabels,
+        "clear-poison-writes-labels",
+        "Clear Poison writes its data to the label area",
+    ),
+    line(
+        Fault::SetLabelsEffectIs0,
+        "set-labels-effect-is-0",
+        "the effect of 4103h is 0",
+    ),
+    line(
+        Fault::GetLabelsEffectIs6,
+        "get-labels-effect-is-6",
+        "the effect of 4102h is 6",
+    ),
+    line(
+        Fault::LabelsNotInEffectsLog,
+        "labels-not-in-effects-log",
+        "the effects log has 48 bytes, as before W-206",
+    ),
+    line(
+        Fault::LabelsLastInEffectsLog,
+        "labels-last-in-effects-log",
+        "4102h and 4103h stand last in the effects log",
+    ),
+    line(
+        Fault::EffectsSizeIs48,
+        "effects-size-is-48",
+        "Get Supported Logs gives the effects log's size as 48",
+    ),
+    line(
+        Fault::GetLogEndsAt48,
+        "get-log-ends-at-48",
+        "Get Log refuses what lies past byte 48 of the effects log",
+    ),
+    line(
+        Fault::LabelSizeIs0,
+        "label-size-is-0",
+        "Identify's label size is 0, as before W-206",
+    ),
+    line(
+        Fault::LabelSizeIs2048,
+        "label-size-is-2048",
+        "Identify's label size is 2,048",
+    ),
 ];
 
 /// The planted faults that probe alone can see: those about the lent buffer,
@@ -819,6 +1119,101 @@ pub const PROBE_FAULTS: &[FaultLine] = &[
         "reserved-before-payload-limit",
         "0002h for a reserved place or a mode is given before 0016h for a payload over 2,048 bytes",
     ),
+    line(
+        Fault::AreaAfterOpcode,
+        "area-after-opcode",
+        "0003h is given before 0100h for the label area",
+    ),
+    line(
+        Fault::AreaAfterLength,
+        "area-after-length",
+        "0016h is given before 0100h for the label area",
+    ),
+    line(
+        Fault::AreaAfterOwnChecks,
+        "area-after-own-checks",
+        "the command's own checks come before 0100h for the label area",
+    ),
+    line(
+        Fault::AreaAfterChange,
+        "area-after-change",
+        "a command that is refused for its label area changes device and area",
+    ),
+    line(
+        Fault::AreaIs2h,
+        "area-is-2h",
+        "0002h is given for a label area that is not of 4,096 bytes",
+    ),
+    line(
+        Fault::AreaLongerTaken,
+        "area-longer-taken",
+        "a label area over 4,096 bytes is taken",
+    ),
+    line(
+        Fault::AreaShorterTaken,
+        "area-shorter-taken",
+        "a label area under 4,096 bytes is taken",
+    ),
+    line(
+        Fault::AreaOfNoneTaken,
+        "area-of-none-taken",
+        "an empty label area is taken by commands that have nothing to do with it",
+    ),
+    line(
+        Fault::AreaOfLabelsAlone,
+        "area-of-labels-alone",
+        "the label area is looked at by Get LSA and Set LSA alone",
+    ),
+    line(
+        Fault::AreaOfLastBytes,
+        "area-of-last-bytes",
+        "the store's last bytes are lent, not its first",
+    ),
+    line(
+        Fault::AreaForOneCommand,
+        "area-for-one-command",
+        "a size of the label area holds for one command",
+    ),
+    line(
+        Fault::AreaClearsStore,
+        "area-clears-store",
+        "a size of the label area clears the store",
+    ),
+    line(
+        Fault::AreaClearsRest,
+        "area-clears-rest",
+        "a size of the label area clears the bytes past it",
+    ),
+    line(
+        Fault::MakeClearsStore,
+        "make-clears-store",
+        "a make clears the store",
+    ),
+    line(
+        Fault::RefusedMakeClearsStore,
+        "refused-make-clears-store",
+        "a refused make clears the store",
+    ),
+    line(
+        Fault::MakeLends4096,
+        "make-lends-4096",
+        "4,096 bytes of label area are lent after a make",
+    ),
+    line(
+        Fault::LabelBytesOfLentAlone,
+        "label-bytes-of-lent-alone",
+        "bytes of the store past the area lent are shown as 0",
+    ),
+    line(
+        Fault::GetLabelsOldBytes,
+        "get-labels-old-bytes",
+        "Get LSA leaves the buffer as it was",
+    ),
+    line(
+        Fault::SetLabelsHasVector,
+        "set-labels-has-vector",
+        "Set LSA carries vector 2",
+    ),
 ];
 
 /// The planted faults of the host's side (W-202), which probe alone can see, in the
@@ -925,6 +1320,11 @@ pub const HOST_FAULTS: &[FaultLine] = &[
         "the size of log 4 is read from the two bytes before it",
     ),
     line(
+        Fault::IdentifyLabelSizeJudged,
+        "identify-label-size-judged",
+        "0002h is given for a captured label size that is not 4,096",
+    ),
+    line(
         Fault::RoomBeforeReading,
         "room-before-reading",
         "0100h for a reply written again is given before its reading",
@@ -958,6 +1358,11 @@ pub const HOST_FAULTS: &[FaultLine] = &[
         Fault::WalkJoinsNeighbours,
         "walk-joins-neighbours",
         "parts of an entry cut by halving are joined again",
+    ),
+    line(
+        Fault::WalkInLentArea,
+        "walk-in-lent-area",
+        "a walk is refused while another size than 4,096 is lent for labels",
     ),
     line(
         Fault::WalkRefusedIsEmpty,

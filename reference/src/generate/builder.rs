@@ -1,7 +1,7 @@
 //! The stream under construction. It runs the model beside the stream, so that
 //! a profile can choose handles and lines by the state they will meet.
 
-use super::labels::{get_payload, set_payload};
+use super::labels::{get_payload, set_payload, wrong_size};
 use super::reserved::spoil_clear;
 use crate::device::numbers::{opcode, MAILBOX, RECORD};
 use crate::device::poison::Entry;
@@ -122,9 +122,14 @@ impl Builder {
 
     /// Event status and damage total, in a probe stream.
     fn ask(&mut self) {
+        self.append_extra(&Record::Status);
+        self.append_extra(&Record::Total);
+    }
+
+    /// Appends a record that is not counted, in a probe stream alone.
+    fn append_extra(&mut self, record: &Record) {
         if self.format == Format::Probe && !self.ended() {
-            self.append(&Record::Status);
-            self.append(&Record::Total);
+            self.append(record);
         }
     }
 
@@ -187,25 +192,28 @@ impl Builder {
         let fill = self.any_fill();
         // First at times in a room that is too small: refused, and the device
         // is as it was.
-        if self.format == Format::Probe && self.extras.one_in(12) && !self.ended() {
-            let room = self.extras.pick(&[0, 1, 2046, 2047]);
-            self.append(&Record::Command {
-                time,
-                opcode,
-                room,
-                fill,
-                payload: payload.clone(),
-            });
-        }
-        let any = self.extras.between(2048, 4096) as u16;
-        let room = self.extras.pick(&[2048, 2048, 2049, 2050, 4096, any]);
-        self.push(Record::Command {
+        let command = |room: u16| Record::Command {
             time,
             opcode,
             room,
             fill,
-            payload,
-        });
+            payload: payload.clone(),
+        };
+        if self.extras.one_in(12) {
+            let room = self.extras.pick(&[0, 1, 2046, 2047]);
+            self.append_extra(&command(room));
+        }
+        // ... or with a label area of a wrong size (W-206).
+        if self.extras.one_in(30) {
+            let size = self.labels().lent().len() as u32;
+            let wrong = wrong_size(&mut self.extras);
+            self.label_area(wrong);
+            self.append_extra(&command(MAILBOX as u16));
+            self.label_area(size);
+        }
+        let any = self.extras.between(2048, 4096) as u16;
+        let room = self.extras.pick(&[2048, 2048, 2049, 2050, 4096, any]);
+        self.push(command(room));
     }
 
     /// A command with this room and fill, once.
@@ -301,6 +309,16 @@ impl Builder {
 
     pub fn set_labels(&mut self, offset: u32, data: &[u8]) {
         self.command(opcode::SET_LSA, set_payload(offset, [0; 4], data));
+    }
+
+    /// So many bytes of the label store are lent from now on, in a probe stream.
+    pub fn label_area(&mut self, size: u32) {
+        self.append_extra(&Record::LabelArea { size });
+    }
+
+    /// Bytes of the label store, in a probe stream.
+    pub fn label_bytes(&mut self, offset: u16, length: u16) {
+        self.append_extra(&Record::LabelBytes { offset, length });
     }
 
     /// The device's lines.

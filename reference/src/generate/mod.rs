@@ -163,11 +163,6 @@ pub const PROFILES: &[Profile] = &[
         "every length of 0 to 80 and some great ones for every opcode",
     ),
     one(
-        "unknown-opcodes",
-        commands::unknown_opcodes,
-        "every opcode of 16 bits, and payloads at those near the commands",
-    ),
-    one(
         "policy",
         commands::policy,
         "policy bytes of every value that is taken, four and five of them, and some refused",
@@ -181,6 +176,31 @@ pub const PROFILES: &[Profile] = &[
         "get-log",
         commands::get_log,
         "Get Log offsets, lengths and identifiers at every edge",
+    ),
+    one(
+        "label-ranges",
+        labels::ranges,
+        "Set LSA, then Get LSA of the same, overlapping, neighbouring and apart bytes",
+    ),
+    one(
+        "label-edges",
+        labels::label_edges,
+        "label offsets and lengths at every edge, sums that wrap in 16 and 32 bits",
+    ),
+    one(
+        "label-refusals",
+        labels::label_refusals,
+        "Set LSA with reserved bytes, label payloads of every length, what was not written",
+    ),
+    one(
+        "labels-kept",
+        labels::labels_kept,
+        "labels under all other calls, refused ones included",
+    ),
+    one(
+        "unknown-opcodes",
+        commands::unknown_opcodes,
+        "every opcode of 16 bits, and payloads at those near the commands",
     ),
     several(
         "devices",
@@ -312,6 +332,16 @@ pub const PROBE_PROFILES: &[Profile] = &[
         "bad streams of every kind, marks of later requests, a cut at every place (693 streams)",
     ),
     one(
+        "label-areas",
+        labels::label_areas,
+        "label areas of every size with every kind of command",
+    ),
+    one(
+        "label-store",
+        labels::label_store,
+        "the label store under makes, changing sizes and rooms of every kind",
+    ),
+    one(
         "everything",
         probe::everything,
         "all calls of probe mixed, makes and every size included",
@@ -347,7 +377,7 @@ pub const PROBE_PROFILES: &[Profile] = &[
 /// Seeds `compare` runs where none are given: two rounds of [`SEED_ROUND`].
 pub const DEFAULT_SEEDS: std::ops::Range<u64> = 0..2 * SEED_ROUND;
 /// Each large profile is chosen by one seed of a round.
-const SEED_ROUND: u64 = 155;
+const SEED_ROUND: u64 = 181;
 
 /// Every profile of a format.
 pub fn profiles(format: Format) -> Vec<&'static Profile> {

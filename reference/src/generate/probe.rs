@@ -10,8 +10,8 @@ use crate::probe::record::{Record, MOST};
 /// Rooms at every edge.
 const ROOMS: [u16; 9] = [0, 1, 2046, 2047, 2048, 2049, 2050, 4095, 4096];
 
-/// The twelve opcodes and some that are unknown.
-fn codes() -> impl Iterator<Item = u16> {
+/// The opcodes and some that are unknown.
+pub fn codes() -> impl Iterator<Item = u16> {
     let unknown = [0x0000, 0x0104, 0x0200, 0x4303, 0xffff];
     opcode::ALL.into_iter().chain(unknown)
 }

@@ -1,5 +1,6 @@
 //! What several test files share: generated streams run record by record.
 
+use reference::device::numbers::{LABEL_AREA, MAILBOX};
 use reference::device::{Config, Device};
 use reference::format::Format;
 use reference::generate::Profile;
@@ -22,5 +23,23 @@ pub fn each_step(
         let before = probe.device().clone();
         probe.step(&record);
         look(&record, &before, &probe);
+    }
+}
+
+/// Opcode and payload of a command that is not refused for what it is lent: the reply buffer
+/// has room for a mailbox and the label area is of the right size. `after` is the program
+/// after the record, which does not change what is lent.
+#[allow(dead_code)]
+pub fn rightly_lent<'a>(record: &'a Record, after: &Probe) -> Option<(u16, &'a [u8])> {
+    match record {
+        Record::Command {
+            opcode,
+            room,
+            payload,
+            ..
+        } if usize::from(*room) >= MAILBOX && after.labels().lent().len() == LABEL_AREA => {
+            Some((*opcode, payload))
+        }
+        _ => None,
     }
 }
