@@ -442,6 +442,34 @@ fn every_probe_record_has_words_that_encode_to_it() {
             },
             "walk address=1 lines=18446744073709551615 room=65536 fill=ff",
         ),
+        (
+            command(0x4102, 2048, 0, &[5, 0, 1, 0, 255, 255, 255, 255]),
+            "command time=7 room=2048 fill=00 get-labels offset=65541 length=4294967295",
+        ),
+        (
+            command(0x4102, 2048, 0, &[5, 0, 1, 0]),
+            "command time=7 room=2048 fill=00 get-labels raw=05000100",
+        ),
+        (
+            command(0x4103, 2048, 0, &[1, 0, 0, 0, 0, 0, 0, 0]),
+            "command time=7 room=2048 fill=00 set-labels offset=1 data=",
+        ),
+        (
+            command(0x4103, 2048, 0, &[1, 0, 0, 0, 0, 0, 2, 0, 9, 9]),
+            "command time=7 room=2048 fill=00 set-labels offset=1 reserved=00000200 data=0909",
+        ),
+        (
+            command(0x4103, 2048, 0, &[1, 0, 0, 0, 0, 0, 2]),
+            "command time=7 room=2048 fill=00 set-labels raw=01000000000002",
+        ),
+        (Record::LabelArea { size: 8192 }, "label-area size=8192"),
+        (
+            Record::LabelBytes {
+                offset: 8191,
+                length: 1,
+            },
+            "label-bytes offset=8191 length=1",
+        ),
     ];
     let mut stream = Vec::new();
     for (record, expected) in &records {
@@ -455,7 +483,7 @@ fn every_probe_record_has_words_that_encode_to_it() {
     let text = stream_words(Format::Probe, &stream);
     assert!(text.starts_with("program probe\nnew 1 65535\n"));
     assert!(text.contains("\nstatus\ntotal\nrequest "));
-    assert!(text.ends_with(" fill=ff\nbytes 504300\n"));
+    assert!(text.ends_with(" length=1\nbytes 504300\n"));
     let again = read(&text);
     assert_eq!(again.format, Format::Probe);
     assert_eq!(again.stream(), stream);
@@ -584,6 +612,60 @@ fn answers_of_the_hosts_side_are_stated_and_said_in_words() {
     ] {
         let said = one(words, line);
         assert!(said.contains("not a line of this record: "), "{said}");
+    }
+}
+
+#[test]
+fn answers_about_labels_are_stated_and_said_in_words() {
+    let text = "program probe\n\
+        new 1 0\n\
+        command set-labels offset=4 data=0102,ff*20 => success length=0 reply=-\n\
+        command set-labels offset=4096 => success\n\
+        command get-labels offset=3 length=4 => success length=4 data=000102ff reply=000102ff\n\
+        command get-labels offset=0 length=1 => data=00\n\
+        command get-labels offset=4096 length=0 => success reply=-\n\
+        command get-labels raw=00 => invalid-payload-length\n\
+        command opcode=0x4103 payload=00*9 => success\n\
+        label-area size=8192\n\
+        label-area size=0\n\
+        command get-labels offset=0 length=1 => reply-buffer-too-small\n\
+        label-bytes offset=5 length=21 => data=02,ff*20\n\
+        label-bytes offset=0 length=0 => data=-\n";
+    let case = read(text);
+    let output = reference::probe::lines_of(&case.stream(), Config::default());
+    let output = String::from_utf8(output).unwrap();
+    let report = check(&case, &output);
+    let totals = (report.passed, report.failed);
+    assert_eq!(totals, (10, 0), "{:?}", report.lines);
+    let said = explain(&case, &output);
+    for line in [
+        "success: set-labels, no reply, all 2,048 bytes of the buffer still 0x00",
+        "label area, bytes 4 to 25 written",
+        "label area: nothing is written",
+        "label area, bytes 3 to 6: 000102ff",
+        "label area, byte 0: 00",
+        "label area, byte 0 written",
+        "lent from now on: the first 8,192 bytes of the label store",
+        "lent from now on: an empty label area",
+        "label store, bytes 5 to 25: 02,ff*20",
+        "label store: no bytes",
+    ] {
+        assert!(
+            said.contains(&format!("    {line}\n")),
+            "{line} not in {said}"
+        );
+    }
+    // Lines that are no answers.
+    for (words, line) in [
+        ("label-area size=1", "AR 0"),
+        ("label-area size=1", "AB"),
+        ("label-bytes offset=0 length=1", "AB"),
+        ("label-bytes offset=0 length=1", "AB -"),
+        ("label-bytes offset=0 length=1", "AB 0000"),
+        ("label-bytes offset=0 length=0", "AB "),
+    ] {
+        let said = explained(&[(words, line)]);
+        assert!(said[0].starts_with("not a line of this record"), "{said:?}");
     }
 }
 

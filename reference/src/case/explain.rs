@@ -4,6 +4,7 @@ use super::answer::{answer, hex_bytes, Answer, LOG_NAMES};
 use super::encode::{Case, COMMANDS};
 use super::host_answers;
 use super::pairs;
+use super::words::hex_pieces;
 use crate::device::numbers::{number, opcode};
 use crate::probe::record::Record;
 
@@ -292,10 +293,10 @@ pub fn reply_words(code: u16, payload: &[u8], answer: &Answer, out: &mut Vec<Str
 
 /// Bytes that a Get LSA replied or the store showed, with their places.
 fn label_words(what: &str, offset: u64, answer: &Answer) -> String {
-    let data = answer.field("data").unwrap_or_default();
-    match data.len() as u64 / 2 {
+    let data = answer.field("data").and_then(hex_bytes).unwrap_or_default();
+    match data.len() as u64 {
         0 => format!("{what}: no bytes"),
-        length => format!("{what}, {}: {data}", places(offset, length)),
+        length => format!("{what}, {}: {}", places(offset, length), hex_pieces(&data)),
     }
 }
 
