@@ -647,6 +647,7 @@ fn answers_about_labels_are_stated_and_said_in_words() {
         "label area, byte 0 written",
         "lent from now on: the first 8,192 bytes of the label store",
         "lent from now on: an empty label area",
+        "the label area lent: 0 bytes",
         "label store, bytes 5 to 25: 02,ff*20",
         "label store: no bytes",
     ] {

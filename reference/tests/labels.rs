@@ -3,7 +3,7 @@
 
 mod common;
 
-use common::{each_step, rightly_lent};
+use common::{cm, each_step, rightly_lent};
 use reference::device::numbers::{number_of, opcode, Refusal};
 use reference::device::{Answered, Config, Device};
 use reference::format::Format::{self, Bench, Probe};
@@ -424,14 +424,9 @@ fn ab(offset: u16, length: u16) -> Vec<u8> {
     [b"AB", &offset.to_le_bytes()[..], &length.to_le_bytes()[..]].concat()
 }
 
-/// CM at time 0 in a room of 2,048 bytes of EEh.
-fn cm(code: u16, payload: &[u8]) -> Vec<u8> {
-    let mut out = b"CM\0\0\0\0\0\0\0\0".to_vec();
-    out.extend(code.to_le_bytes());
-    out.extend([0, 8, 0xee]);
-    out.extend((payload.len() as u16).to_le_bytes());
-    out.extend(payload);
-    out
+/// CM in a room of 2,048 bytes.
+fn call(code: u16, payload: &[u8]) -> Vec<u8> {
+    cm(code, 2048, 0xee, payload)
 }
 
 /// "the first ones of a store of 8,192 bytes, zero at first and kept whatever is lent of it.
@@ -439,7 +434,7 @@ fn cm(code: u16, payload: &[u8]) -> Vec<u8> {
 /// are."
 #[test]
 fn the_store_of_probe() {
-    let write = |offset, data: &[u8]| cm(SET, &set_payload(offset, [0; 4], data));
+    let write = |offset, data: &[u8]| call(SET, &set_payload(offset, [0; 4], data));
     let taken = "CM 0 0 - 1 0\n";
     let refused = "CM 256 0 - 1 0\n";
     assert_eq!(lines(&[ab(0, 0)]), "AB -\n");
@@ -451,7 +446,12 @@ fn the_store_of_probe() {
     let mut parts = vec![write(0, &[0xab]), write(4095, &[0xcd])];
     let mut expected = taken.repeat(2);
     for size in [0, 1, 2048, 4095, 4097, 8191, 8192] {
-        parts.extend([ar(size), write(0, &[1]), cm(0x4000, &[]), cm(0xffff, &[])]);
+        parts.extend([
+            ar(size),
+            write(0, &[1]),
+            call(0x4000, &[]),
+            call(0xffff, &[]),
+        ]);
         parts.extend([
             b"NW\x01\0\0\0".to_vec(),
             write(0, &[2]),
@@ -461,7 +461,7 @@ fn the_store_of_probe() {
         let makes = format!("NW 0\n{refused}NW 2\n{refused}");
         expected += &format!("AR\n{}{makes}AB ab\nAB cd00\n", refused.repeat(3));
     }
-    parts.extend([ar(4096), cm(GET, &[0, 0, 0, 0, 1, 0, 0, 0])]);
+    parts.extend([ar(4096), call(GET, &[0, 0, 0, 0, 1, 0, 0, 0])]);
     expected += "AR\nCM 0 1 ab 1 0\n";
     assert_eq!(lines(&parts), expected);
 }

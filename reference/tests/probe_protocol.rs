@@ -2,6 +2,9 @@
 //! sentence by sentence. Streams
 //! are laid out here by hand and expected lines are written from the document.
 
+mod common;
+
+use common::cm;
 use reference::device::{Config, Fault};
 use reference::probe::{lines_of, run};
 use std::io::BufReader;
@@ -28,17 +31,6 @@ fn after_new(parts: &[Vec<u8>]) -> String {
 fn nw(volatile: u16, persistent: u16) -> Vec<u8> {
     let fields = [volatile.to_le_bytes(), persistent.to_le_bytes()];
     [b"NW".to_vec(), fields.concat()].concat()
-}
-
-/// CM at time 0: opcode, room, fill, payload.
-fn cm(opcode: u16, room: u16, fill: u8, payload: &[u8]) -> Vec<u8> {
-    let mut out = b"CM\0\0\0\0\0\0\0\0".to_vec();
-    out.extend(opcode.to_le_bytes());
-    out.extend(room.to_le_bytes());
-    out.push(fill);
-    out.extend((payload.len() as u16).to_le_bytes());
-    out.extend(payload);
-    out
 }
 
 /// CM in a room of 2,048 bytes.

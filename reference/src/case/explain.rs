@@ -5,7 +5,7 @@ use super::encode::{Case, COMMANDS};
 use super::host_answers;
 use super::pairs;
 use super::words::hex_pieces;
-use crate::device::numbers::{number, opcode};
+use crate::device::numbers::{number, opcode, LABEL_AREA};
 use crate::probe::record::Record;
 
 /// The whole explanation.
@@ -16,6 +16,7 @@ pub fn explain(case: &Case, output: &str) -> String {
         out.push_str(&text);
         out.push('\n');
     };
+    let mut lent = LABEL_AREA;
     for pair in &pairs {
         let words = cut(&pair.item.line.words);
         say(format!("line {}: {words}", pair.item.line.line));
@@ -24,7 +25,15 @@ pub fn explain(case: &Case, output: &str) -> String {
             continue;
         };
         let answer = answer(case.format, pair.record.as_ref(), line);
-        for text in in_words(pair.record.as_ref(), &answer) {
+        let mut texts = in_words(pair.record.as_ref(), &answer);
+        match pair.record {
+            Some(Record::LabelArea { size }) => lent = size as usize,
+            Some(Record::Command { .. }) if lent != LABEL_AREA => {
+                texts.push(format!("the label area lent: {}", bytes(lent as u64)));
+            }
+            _ => {}
+        }
+        for text in texts {
             say(format!("    {text}"));
         }
     }

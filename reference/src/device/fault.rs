@@ -146,6 +146,7 @@ pub enum Fault {
     InjectVectorOfCovered,
     RoomAfterReserved,
     ReservedBeforePayloadLimit,
+    AreaAfterPayloadLimit,
     AreaAfterOpcode,
     AreaAfterLength,
     AreaAfterOwnChecks,
@@ -1118,6 +1119,11 @@ pub const PROBE_FAULTS: &[FaultLine] = &[
         Fault::ReservedBeforePayloadLimit,
         "reserved-before-payload-limit",
         "0002h for a reserved place or a mode is given before 0016h for a payload over 2,048 bytes",
+    ),
+    line(
+        Fault::AreaAfterPayloadLimit,
+        "area-after-payload-limit",
+        "0016h for a payload over 2,048 bytes is given before 0100h for the label area",
     ),
     line(
         Fault::AreaAfterOpcode,

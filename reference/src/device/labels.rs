@@ -117,8 +117,9 @@ pub fn set(payload: &[u8], area: &mut [u8], config: Config) -> Result<(), Refusa
     Ok(())
 }
 
-/// "reserved bytes of Set not zero": bytes 4 to 7 of its payload.
-fn reserved(payload: &[u8], config: Config) -> bool {
+/// "reserved bytes of Set not zero": bytes 4 to 7 of its payload. Fewer than eight bytes come
+/// here by a planted fault only.
+pub fn reserved(payload: &[u8], config: Config) -> bool {
     let bytes = &payload[4..payload.len().min(8)];
     let Some(Fault::SetLabelsReserved(wrong)) = config.fault else {
         return bytes.iter().any(|byte| *byte != 0);
@@ -139,12 +140,6 @@ fn reserved(payload: &[u8], config: Config) -> bool {
         WrongReserved::NegativeTaken => number(bytes) as u32 as i32 > 0,
         _ => bytes.iter().any(|byte| *byte != 0),
     }
-}
-
-/// Whether a payload of any length has a reserved byte of Set LSA that is not zero (for a
-/// planted fault, which looks at it before the length).
-pub fn reserved_in_any(payload: &[u8]) -> bool {
-    payload.len() > 4 && reserved(payload, Config::default())
 }
 
 /// Writes the bytes from `offset` on, those that lie in the area.

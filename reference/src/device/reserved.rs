@@ -1,6 +1,8 @@
 //! Document 02, W-205: the reserved places of Clear Event Records and the modes of Set
-//! Event Interrupt Policy. Other payloads have no rule of this kind.
+//! Event Interrupt Policy. Of the other payloads Set LSA alone has a rule of this kind, which
+//! stands in `labels.rs`.
 
+use super::labels;
 use super::numbers::opcode;
 use super::{Config, Fault};
 
@@ -68,6 +70,7 @@ pub fn in_payload(code: u16, payload: &[u8]) -> bool {
     match code {
         opcode::CLEAR_EVENT_RECORDS => payload.len() >= 6 && in_clear(payload, config),
         opcode::SET_POLICY => bad_mode(payload, config).is_some(),
+        opcode::SET_LSA => payload.len() > 4 && labels::reserved(payload, config),
         _ => false,
     }
 }

@@ -1,4 +1,7 @@
-//! What several test files share: generated streams run record by record.
+//! What several test files share, none of them all of it: generated streams run record by
+//! record, and a record of probe laid out by hand.
+
+#![allow(dead_code)]
 
 use reference::device::numbers::{LABEL_AREA, MAILBOX};
 use reference::device::{Config, Device};
@@ -29,7 +32,6 @@ pub fn each_step(
 /// Opcode and payload of a command that is not refused for what it is lent: the reply buffer
 /// has room for a mailbox and the label area is of the right size. `after` is the program
 /// after the record, which does not change what is lent.
-#[allow(dead_code)]
 pub fn rightly_lent<'a>(record: &'a Record, after: &Probe) -> Option<(u16, &'a [u8])> {
     match record {
         Record::Command {
@@ -42,4 +44,15 @@ pub fn rightly_lent<'a>(record: &'a Record, after: &Probe) -> Option<(u16, &'a [
         }
         _ => None,
     }
+}
+
+/// CM of probe at time 0: opcode, room, fill, payload.
+pub fn cm(opcode: u16, room: u16, fill: u8, payload: &[u8]) -> Vec<u8> {
+    let mut out = b"CM\0\0\0\0\0\0\0\0".to_vec();
+    out.extend(opcode.to_le_bytes());
+    out.extend(room.to_le_bytes());
+    out.push(fill);
+    out.extend((payload.len() as u16).to_le_bytes());
+    out.extend(payload);
+    out
 }
