@@ -103,7 +103,7 @@ fn run_profiles(words: Vec<String>) -> Outcome {
     let format = arguments.format()?;
     arguments.end(0)?;
     let lines = profiles(format).into_iter();
-    let lines = lines.map(|profile| format!("{:<24}{}\n", profile.name, profile.what));
+    let lines = lines.map(|profile| format!("{:<23} {}\n", profile.name, profile.what));
     print_bytes(lines.collect::<String>().as_bytes())
 }
 
@@ -248,7 +248,7 @@ fn run_faults(words: Vec<String>) -> Outcome {
     let format = arguments.format()?;
     arguments.end(0)?;
     let lines = format.faults().into_iter();
-    let lines = lines.map(|line| format!("{:<34}{}\n", line.name, line.what));
+    let lines = lines.map(|line| format!("{:<40} {}\n", line.name, line.what));
     print_bytes(lines.collect::<String>().as_bytes())
 }
 

@@ -717,6 +717,30 @@ fn handles(line: &str) -> Vec<u16> {
     (0..records).map(handle).collect()
 }
 
+/// A list has the name and what it is about, with a blank between them whatever the name.
+#[test]
+fn lists_of_faults_and_profiles() {
+    for (format, word) in [(Bench, "bench"), (Probe, "probe")] {
+        let listed = |subcommand: &str| -> Vec<(String, String)> {
+            let arguments = [subcommand, "--format", word];
+            let output = Command::new(PROGRAM).args(arguments).output().unwrap();
+            let text = String::from_utf8(output.stdout).unwrap();
+            let lines = text.lines().map(|line| line.split_once(' ').unwrap());
+            lines
+                .map(|(name, what)| (name.to_string(), what.trim_start().to_string()))
+                .collect()
+        };
+        let faults = format.faults().into_iter();
+        let faults: Vec<_> = faults
+            .map(|line| (line.name.into(), line.what.into()))
+            .collect();
+        assert_eq!(listed("faults"), faults);
+        let profiles = profiles(format).into_iter();
+        let profiles: Vec<_> = profiles.map(|p| (p.name.into(), p.what.into())).collect();
+        assert_eq!(listed("profiles"), profiles);
+    }
+}
+
 #[test]
 fn every_subcommand_has_help() {
     for name in [
