@@ -1,5 +1,5 @@
--- Document 01's example of the bench program, from the bytes of its input to the bytes of its output, by computation with the definitions that the
--- contracts cite. Assumes nothing.
+-- Document 01's example of the bench program, and one of its label area, from the bytes of the input to the bytes of the output, by computation with the definitions
+-- that the contracts cite. Assumes nothing.
 use mathlib.Core.Path.{_≡_, refl}
 use mathlib.Core.List.{List, [], _∷_, _++_}
 use Prim.Native.Nat.{ℕ}
@@ -44,3 +44,23 @@ output =
 example : program 10 input ≡ output
 unfolding program printed input output rules numeral columns hex bad-line last-line whole tells front-size fixed head size bench-fixed bench-size command-line told-line first-record serve-command serve-event serve-media serve-line serve-record
 example = refl
+
+-- "an area starts as zeros and is kept": NW 1 0; CM time 0, 4103h, offset 4,094, 0A 0B; LT 0; CM time 0, 4102h, offset 4,093, 3 bytes
+labels-input : List ℕ
+labels-input =
+    (78 ∷ 87 ∷ 1 ∷ 0 ∷ 0 ∷ 0 ∷ [])
+    ++ (67 ∷ 77 ∷ []) ++ replicate 8 0 ++ (3 ∷ 65 ∷ 10 ∷ 0 ∷ 254 ∷ 15 ∷ 0 ∷ 0 ∷ 0 ∷ 0 ∷ 0 ∷ 0 ∷ 10 ∷ 11 ∷ [])
+    ++ (76 ∷ 84 ∷ []) ++ replicate 8 0
+    ++ (67 ∷ 77 ∷ []) ++ replicate 8 0 ++ (2 ∷ 65 ∷ 8 ∷ 0 ∷ 253 ∷ 15 ∷ 0 ∷ 0 ∷ 3 ∷ 0 ∷ 0 ∷ 0 ∷ [])
+
+-- "NW 0", "CM 0 0", "LT 0 0 0", "CM 0 3 000a0b"
+labels-output : List ℕ
+labels-output =
+    (78 ∷ 87 ∷ 32 ∷ 48 ∷ 10 ∷ [])
+    ++ (67 ∷ 77 ∷ 32 ∷ 48 ∷ 32 ∷ 48 ∷ 10 ∷ [])
+    ++ (76 ∷ 84 ∷ 32 ∷ 48 ∷ 32 ∷ 48 ∷ 32 ∷ 48 ∷ 10 ∷ [])
+    ++ (67 ∷ 77 ∷ 32 ∷ 48 ∷ 32 ∷ 51 ∷ 32 ∷ 48 ∷ 48 ∷ 48 ∷ 97 ∷ 48 ∷ 98 ∷ 10 ∷ [])
+
+labels-example : program 10 labels-input ≡ labels-output
+unfolding program printed labels-input labels-output rules numeral columns hex bad-line last-line whole tells front-size fixed head size bench-fixed bench-size command-line told-line first-record serve-command serve-event serve-media serve-line serve-record
+labels-example = refl

@@ -100,7 +100,7 @@ fn write(
 // Walks the poison list over some lines from an address on: writes the records to the room, or refuses and leaves the room as it was. The device is asked for
 // the whole range first: where it refuses, its number is the walk's. How many records there are is found before the first is written, by the same recursion.
 // A room of 5,120 bytes is enough on every device (`walk-enough` of proofs/WalkCounts.antt). The stack: a level of the recursion takes some 7.8 KB, since the device
-// is handed on by value (the prover covers no reference to a struct); there are at most 27 levels (`walk-deep`), with the request some 220 KB, as measured.
+// is handed on by value (the prover covers no reference to a struct); there are at most 27 levels (`walk-deep`), with the request some 224 KB, by the frames of the compiled code.
 pub fn walk(device: Device, address: u64, lines: u64, room: &mut [u8]) -> Done
     requires { ⌜ ValidDevice device ⌝ }
     ensures { λ r. ⌜ Writes (walk-answer device address lines (length (now (room .entry)))) r (now (room .entry)) (now (room .exit)) ⌝ }

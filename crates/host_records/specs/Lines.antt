@@ -31,6 +31,6 @@ buffer-line mark code n fill buffer = buffer-columns mark code n fill buffer ++ 
 unfoldable pub written-line : List ℕ → ℕ → ℕ → Written → List ℕ
 written-line mark fill room o = buffer-line mark (o .code) (length (o .bytes)) fill (splice 0 (o .bytes) (replicate room fill))
 
--- no line is longer: the longest are those of a reply of 4,096 bytes, read as records, and of a walk's 320 records
+-- no line is longer: the longest are those of the whole label store, of a reply of 4,096 bytes, read as records, and of a walk's 320 records
 abbrev pub line-room : ℕ
 line-room = 20000

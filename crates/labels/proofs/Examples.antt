@@ -1,8 +1,6 @@
 -- The two commands of the label area by computation (document 02, W-206): each row is a number given and the number that the document says. Assumes nothing.
 use mathlib.Core.Path.{_≡_, refl}
-use mathlib.Core.List.{List, [], _∷_, _++_}
-use Prim.Native.Nat.{ℕ}
-use lib.ListN.{replicate}
+use mathlib.Core.List.{[], _∷_, _++_}
 use Rattle.wire.specs.Wire.{le, number, part, field, splice}
 use Rattle.wire.specs.Done.{written}
 use Rattle.labels.specs.Labels.{get-labels, set-code, set-labels}

@@ -1,14 +1,14 @@
 -- A Set LSA and a Get LSA, over any two payloads (document 02, W-206): where the ranges are the same the Get gives the data back, and where no byte is in both it gives what it
 -- gave before the Set. And the reserved bytes, each by itself. Assumes nothing.
-use mathlib.Core.Path.{_≡_, refl, sym, ap, ap₂, _∙_, subst}
-use mathlib.Core.Bool.{Bool, true, false, cond}
+use mathlib.Core.Path.{_≡_, refl, sym, ap, ap₂, _∙_}
+use mathlib.Core.Bool.{Bool, false}
 use mathlib.Core.List.{List, []}
 use mathlib.Core.Logic.{_⊎_, inl, inr}
 use Prim.Native.Nat.{ℕ, _+_, _-_, _≤_, _<_}
 use native.Mathlib.Omega.{arith}
 use native.Mathlib.Decide.{decLe, ℕ-discrete}
 use lib.Dec.{eqb, leb}
-use lib.ListN.{length, getD, length-drop}
+use lib.ListN.{length, getD}
 use borrow.Author.Tests.{le-leb, lt-leb, eq-eqb, ne-eqb}
 use Rattle.wire.specs.Wire.{part, splice}
 use Rattle.wire.specs.Returns.{success, invalid-input, need}
@@ -16,7 +16,7 @@ use Rattle.wire.specs.Done.{Written, written, refused}
 use Rattle.wire.proofs.Laws.{part-none, length-splice, bytes-zero, either}
 use Rattle.wire.proofs.Splice.{nothing-written, part-written, part-before, part-after}
 use Rattle.labels.specs.Labels.{label-size, label-offset, labels-asked, labels-reserved, label-data, get-labels, set-code, set-labels, SameRange, Apart}
-use Rattle.labels.proofs.Cases.{get-long, get-past, get-read, data-length, set-accepted}
+use Rattle.labels.proofs.Cases.{get-long, get-past, get-read, set-accepted}
 
 -- a Get LSA of at most `most` bytes that ends in the area gives the bytes of its range; every other is 0002h
 module _ (most : ℕ) (p area : List ℕ) where

@@ -1,7 +1,7 @@
 -- The label area and its two commands (document 02, W-206), over the bytes that the caller lends. "Sums are of whole numbers" (document 01). Assumes nothing.
 use Prim.Native.Nat.{ℕ, _+_, _≤_, _<_}
 use mathlib.Core.Path.{_≡_}
-use mathlib.Core.Bool.{Bool, cond}
+use mathlib.Core.Bool.{cond}
 use mathlib.Core.List.{List}
 use lib.Dec.{eqb, leb}
 use lib.ListN.{length, drop, replicate}

@@ -6,11 +6,11 @@ use mathlib.Core.List.{List}
 use Prim.Native.Nat.{ℕ}
 use lib.Dec.{eqb}
 use lib.ListN.{length}
-use borrow.Author.Tests.{eq-eqb, ne-eqb, eqb-true, eqb-false}
+use borrow.Author.Tests.{eq-eqb, ne-eqb, eqb-true}
 use Rattle.wire.specs.Returns.{success}
 use Rattle.wire.specs.declared.done.Done.{Done}
 use Rattle.wire.specs.Done.{Writes}
-use Rattle.labels.specs.Labels.{label-size, get-labels, set-code, set-labels, Sets}
+use Rattle.labels.specs.Labels.{label-size, get-labels, set-labels, Sets}
 use Rattle.mailbox.specs.Numbers.{mailbox-size}
 use Rattle.mailbox.specs.Commands.{admission}
 use Rattle.mailbox.specs.Mailbox.{run-command, area-after}

@@ -1,7 +1,7 @@
 -- The label area through the mailbox (document 02, W-206): "After a Set, where all are accepted and nobody writes the area between, a Get of the same range gives the data back, and a Get of a range
 -- apart from it gives what it gave just before the Set." Of any devices, times and rooms: `lent` is the area that the Get is lent, and that it is the one that the Set left says that nobody wrote
 -- it between; other commands may have come (`other-leaves`), refused ones too (`refusal-leaves`). And which numbers the two commands give. Assumes nothing.
-use mathlib.Core.Path.{_≡_, refl, sym, ap, _∙_, subst}
+use mathlib.Core.Path.{_≡_, refl, sym, ap, _∙_}
 use mathlib.Core.List.{List}
 use mathlib.Core.Logic.{_⊎_}
 use Prim.Native.Nat.{ℕ, _+_, _≤_, _<_}
@@ -9,7 +9,6 @@ use native.Mathlib.Omega.{arith}
 use native.Mathlib.Decide.{ℕ-discrete}
 use lib.Dec.{eqb}
 use lib.ListN.{length, getD}
-use borrow.Author.Tests.{eq-eqb}
 use Rattle.wire.specs.Wire.{part}
 use Rattle.wire.specs.Returns.{success, small-buffer, invalid-input, need}
 use Rattle.wire.specs.Done.{Written, written}

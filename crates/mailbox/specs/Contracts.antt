@@ -21,7 +21,7 @@ use Rattle.mailbox.specs.declared.device_calls.MediaAnswer.{MediaAnswer}
 use Rattle.mailbox.specs.declared.device_calls.LineAnswer.{LineAnswer}
 use Rattle.mailbox.specs.State.{ValidDevice, state-of}
 use Rattle.mailbox.specs.Vector.{Carries}
-use Rattle.mailbox.specs.Outcome.{Reply, Outcome}
+use Rattle.mailbox.specs.Outcome.{Outcome}
 use Rattle.mailbox.specs.Policy.{PolicyChange}
 use Rattle.mailbox.specs.PoisonCommands.{ListChange, inject-poison, inject-adds}
 use Rattle.mailbox.specs.DeviceCalls.{MakeOutcome, EventOutcome, MediaOutcome, LineOutcome}

@@ -1,5 +1,5 @@
--- The records that see the label store, with their lines, and the others lifted to it: what each leaves of the device, of the store and of the size lent, and which of them serves a record of
--- each mark. Assumes nothing.
+-- The records that see the label store, with their lines, and the others lifted to it: what each leaves of the device, of the store and of the size lent, and which of
+-- them serves a record of each mark. Assumes nothing.
 use mathlib.Core.Path.{_≡_, refl, sym, ap, ap₂, subst, _∙_}
 use mathlib.Core.List.{List, [], _∷_, _++_}
 use Prim.Native.Nat.{ℕ, _+_, _-_, _*_, _≤_, _<_}
@@ -23,7 +23,7 @@ use Rattle.probe.specs.Calls.{command-call, area-left, serve-command, se
 use Rattle.probe.specs.Contracts.{kept-of, Leaves}
 
 -- AR: the mark's letters, and the line's end
-pub area-put : (used : ℕ) {e : ℕ} {d₀ d₁ d₂ : List ℕ} → Puts used (65 ∷ 82 ∷ []) d₀ d₁ (used + 2) → Puts (used + 2) line-end d₁ d₂ e → used + 20000 ≤ length d₀
+pub area-put : (used : ℕ) {e : ℕ} {d₀ d₁ d₂ : List ℕ} → Puts used (65 ∷ 82 ∷ []) d₀ d₁ (used + 2) → Puts (used + 2) line-end d₁ d₂ e → used + 3 ≤ length d₀
     → PutsLine used (numbers-line AR []) d₀ d₂ e
 unfolding columns
 area-put used start end wide = record { puts = puts-then start end (omega arith); room = omega (arith, end .end) }

@@ -33,14 +33,14 @@ pub command-at : {op op' time time' room room' : ℕ} {payload payload' area are
 command-at {after = after} {d = d} {r = r} h eo ep et ea er eb =
     subst (λ (x : Outcome × List ℕ). Answered (x .0) d r (x .1) after) (λ i. (outcome (state-of d) (eo i) (ep i) (et i) (ea i) (er i), eb i)) h
 
--- the label area after a command, likewise
-pub area-at : (code : ℕ) (area : List ℕ) {op op' : ℕ} {payload payload' after : List ℕ} → after ≡ area-after op payload code area → op ≡ op' → payload ≡ payload'
-    → after ≡ area-after op' payload' code area
-area-at code area h eo ep = h ∙ ap₂ (λ (o : ℕ) (p : List ℕ). area-after o p code area) eo ep
-
 pub event-at : {time time' log log' : ℕ} {bytes bytes' : List ℕ} {d : Device} {r : EventAnswer} → EventDone (event-report (state-of d) time log bytes) d r
     → time ≡ time' → log ≡ log' → bytes ≡ bytes' → EventDone (event-report (state-of d) time' log' bytes') d r
 event-at {d = d} {r = r} h et el eb = subst (λ (o : EventOutcome). EventDone o d r) (λ i. event-report (state-of d) (et i) (el i) (eb i)) h
+
+-- the label area after a command, at an equal opcode and payload
+pub area-at : (code : ℕ) (area : List ℕ) {op op' : ℕ} {payload payload' after : List ℕ} → after ≡ area-after op payload code area → op ≡ op' → payload ≡ payload'
+    → after ≡ area-after op' payload' code area
+area-at code area h eo ep = h ∙ ap₂ (λ (o : ℕ) (p : List ℕ). area-after o p code area) eo ep
 
 -- the calls at the record's fields
 pub make-as : (bytes : List ℕ) (v p : ℕ) {r : Made} → Makes (make v p) r → v ≡ field bytes 2 2 → p ≡ field bytes 4 2 → Makes (new-call bytes) r

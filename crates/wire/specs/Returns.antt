@@ -26,7 +26,7 @@ invalid-length = 0x16
 abbrev pub invalid-log : ℕ
 invalid-log = 0x17
 
--- house: reply buffer under 2,048 bytes
+-- house: reply buffer under 2,048 bytes; label area not 4,096 (document 02, W-206)
 abbrev pub small-buffer : ℕ
 small-buffer = 0x100
 

@@ -15,5 +15,5 @@ pub const INVALID_LENGTH: u16 = 0x16;
 
 pub const INVALID_LOG: u16 = 0x17;
 
-// House: reply buffer under 2,048 bytes.
+// House: reply buffer under 2,048 bytes; label area not 4,096 (document 02, W-206).
 pub const SMALL_BUFFER: u16 = 0x100;

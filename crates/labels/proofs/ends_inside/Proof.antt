@@ -1,6 +1,5 @@
 -- `labels::ends_inside` meets its contract. Assumes nothing.
 use mathlib.Core.Path.{refl}
-use native.Mathlib.Omega.{arith}
 use borrow.Author.Needs.{needs}
 use Rattle.labels.proofs.ends_inside.Statement.{statement}
 use Rattle.labels.proofs.ends_inside.Tie as tie

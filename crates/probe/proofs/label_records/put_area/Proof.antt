@@ -28,7 +28,7 @@ same-length c = omega (arith, simp length-set at (c .before .before .end-line .k
 returns : tie.Need-returns
 returns c =
     let s = c .before .before .before .before .before in
-    area-put (s .args .used) (puts-two (s .args .used) 65 82 (s .args .out .now) (omega (arith, s .pre))) (c .before .before .end-line .ensures) (s .pre)
+    area-put (s .args .used) (puts-two (s .args .used) 65 82 (s .args .out .now) (omega (arith, s .pre))) (c .before .before .end-line .ensures) (omega (arith, s .pre))
 
 pub put-area-spec : {M : Type 1} → statement M
 put-area-spec =

@@ -3,16 +3,13 @@ use mathlib.Core.Path.{sym, _∙_}
 use Prim.Native.Nat.{_≤_}
 use native.Mathlib.Omega.{arith}
 use borrow.Author.Needs.{needs}
-use lib.ListN.{length}
+use lib.ListN.{length, length-take}
 use Rattle.probe.proofs.CallLaws.{taken}
 use Rattle.probe.proofs.LabelLaws.{lent-served}
 use Rattle.probe.proofs.serve.command_lent.Statement.{statement}
 use Rattle.probe.proofs.serve.command_lent.Tie as tie
 
--- what is lent lies in the store, and in the buffer
-stored : (s : tie.Start) → s .args .lent ≤ length (s .args .store .now)
-stored s = omega (arith, s .pre .3, s .pre .4)
-
+-- what is lent of the buffer lies in it
 roomy : (c : tie.After-get) → c .get .result ≤ length (c .before .before .before .before .before .args .reply .now)
 roomy c = omega (arith, c .get .ensures .value, c .before .before .before .before .before .pre .2, c .before .before .before .before .before .pre .5)
 
@@ -20,10 +17,10 @@ get-requires : tie.Need-get-requires
 get-requires c κs = search needs
 
 slice-relend-prefix-command : tie.Need-slice-relend-prefix-command
-slice-relend-prefix-command c = stored (c .before .before .before .before .before)
+slice-relend-prefix-command c = let s = c .before .before .before .before .before in omega (arith, s .pre .3, s .pre .4)
 
 slice-aggregate-command : tie.Need-slice-aggregate-command
-slice-aggregate-command c = sym (taken (c .before .before .before .before .before .before .args .lent) (c .before .before .before .before .before .before .args .store .now) (stored (c .before .before .before .before .before .before)))
+slice-aggregate-command c = let s = c .before .before .before .before .before .before in rw length-take (omega (arith, s .pre .3, s .pre .4))
 
 slice-relend-prefix-command-2 : tie.Need-slice-relend-prefix-command-2
 slice-relend-prefix-command-2 c = roomy (c .before)
