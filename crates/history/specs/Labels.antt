@@ -1,12 +1,22 @@
--- Examples of W-206 (document 02) by number: one table of what the definitions give and what the document says, on a device of one unit. Assumes nothing.
+-- W-206 (document 02): commands that are lent one label area in turn, for "nobody writes the area between"; and examples by number, one table of what the definitions give and what the document says,
+-- on a device of one unit. Assumes nothing.
 use Prim.Native.Nat.{ℕ}
+use mathlib.Core.Path.{_≡_}
 use mathlib.Core.List.{List, [], _∷_, _++_, map}
 use lib.ListN.{length, take, drop, replicate}
+use Rattle.wire.specs.Returns.{success}
 use Rattle.wire.specs.Wire.{le, field, part}
 use Rattle.labels.specs.Labels.{label-size, zero-area}
 use Rattle.mailbox.specs.Mailbox.{outcome, area-after}
 use Rattle.mailbox.specs.EffectsLog.{effects-log-id}
 use Rattle.history.specs.Cases.{new-unit, Case, case}
+
+-- ---- "nobody writes the area between": commands come one after the other, each lent the area as the last one left it, and none of them is a Set LSA that was answered Success. From the area before
+-- them to the area after
+pub data Untouched (area : List ℕ) : List ℕ → Type 0 where
+  none : (left : List ℕ) → left ≡ area → Untouched area left
+  more : (lent left : List ℕ) → Untouched area lent → (opcode : ℕ) (payload : List ℕ) (code : ℕ) → (opcode ≡ 0x4103 → code ≡ success → ⊥) → left ≡ area-after opcode payload code lent
+      → Untouched area left
 
 -- ---- the payloads
 -- Get LSA: "(offset 4, length 4)"
