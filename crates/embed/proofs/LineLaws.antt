@@ -5,7 +5,7 @@ use borrow.Author.Tests.{ne-eqb}
 use Rattle.poison.specs.declared.line_test.LineTest.{LineTest}
 use Rattle.poison.specs.LineTest.{answer-number, answer-type, line-test as list-test}
 use Rattle.mailbox.specs.State.{DeviceState, lines-of}
-use Rattle.mailbox.specs.PoisonCommands.{line-of, line-code}
+use Rattle.commands.specs.PoisonCommands.{line-of, line-code}
 use Rattle.mailbox.specs.DeviceCalls.{line-test, LineOutcome}
 use Rattle.embed.specs.Left.{LineTold}
 

@@ -24,9 +24,9 @@ use Rattle.mailbox.specs.declared.by_parts.LogParts.{LogParts}
 use Rattle.mailbox.specs.declared.by_parts.SettingsParts.{SettingsParts}
 use Rattle.mailbox.specs.declared.by_parts.EventParts.{EventParts}
 use Rattle.mailbox.specs.declared.by_parts.MediaLeft.{MediaLeft}
-use Rattle.mailbox.specs.Numbers.{unit-lines, most-units}
+use Rattle.commands.specs.Numbers.{unit-lines, most-units}
 use Rattle.mailbox.specs.State.{DeviceState, ValidDevice, state-of}
-use Rattle.mailbox.specs.Vector.{numbered}
+use Rattle.commands.specs.Vector.{numbered}
 use Rattle.mailbox.specs.Mailbox.{outcome}
 use Rattle.mailbox.specs.DeviceCalls.{event-report, media-report, line-test, damage-total}
 use Rattle.mailbox.specs.Contracts.{Answered, EventDone, MediaDone}

@@ -13,8 +13,8 @@ use Rattle.mailbox.specs.declared.device_calls.MediaAnswer.{MediaAnswer}
 use Rattle.mailbox.specs.State.{DeviceState, state-of}
 use Rattle.mailbox.specs.Mailbox.{outcome, area-after}
 use Rattle.mailbox.specs.Contracts.{Answered}
-use Rattle.mailbox.specs.Vector.{numbered}
-use Rattle.mailbox.specs.Clock.{unset}
+use Rattle.commands.specs.Vector.{numbered}
+use Rattle.commands.specs.Clock.{unset}
 use Rattle.mailbox.specs.DeviceCalls.{LineOutcome}
 use Rattle.embed.specs.declared.Done.{Done}
 use Rattle.embed.specs.declared.Event.{Event}

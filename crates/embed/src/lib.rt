@@ -18,7 +18,7 @@ ghost use lib.ListN.{length};
 ghost use Rattle.labels.specs.Labels.{label-size};
 ghost use Rattle.poison.specs.State.{capacity, ValidRuns};
 ghost use Rattle.poison.specs.LineTest.{list-in};
-ghost use Rattle.mailbox.specs.Numbers.{most-units};
+ghost use Rattle.commands.specs.Numbers.{most-units};
 ghost use Rattle.mailbox.specs.State.{ValidDevice, state-of};
 ghost use Rattle.mailbox.specs.Mailbox.{outcome, area-after};
 ghost use Rattle.mailbox.specs.DeviceCalls.{make, event-report, media-report, line-test, event-status, damage-total};

@@ -15,8 +15,8 @@ use Rattle.events.specs.Log.{LogState, log-at}
 use Rattle.labels.specs.Labels.{label-size, zero-area}
 use Rattle.mailbox.specs.State.{DeviceState, ValidDevice, state-of}
 use Rattle.mailbox.specs.declared.device.Device.{Device}
-use Rattle.mailbox.specs.Commands.{commands, known}
-use Rattle.mailbox.specs.EffectsLog.{effects-log-id}
+use Rattle.commands.specs.Commands.{commands, known}
+use Rattle.commands.specs.EffectsLog.{effects-log-id}
 use Rattle.mailbox.specs.Outcome.{Outcome}
 use Rattle.mailbox.specs.Mailbox.{outcome, area-after}
 use Rattle.mailbox.specs.DeviceCalls as Device

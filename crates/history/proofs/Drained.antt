@@ -13,10 +13,10 @@ use Rattle.events.specs.Get as Get
 use Rattle.events.specs.Drain.{more-bit, clear-read}
 use Rattle.events.proofs.Laws as Logs
 use Rattle.labels.specs.Labels.{label-size}
-use Rattle.mailbox.specs.Commands.{admission}
-use Rattle.mailbox.specs.Numbers.{mailbox-size, event-records}
+use Rattle.commands.specs.Commands.{admission}
+use Rattle.commands.specs.Numbers.{mailbox-size, event-records}
 use Rattle.mailbox.specs.State.{DeviceState, state-of}
-use Rattle.mailbox.specs.Vector.{no-vector}
+use Rattle.commands.specs.Vector.{no-vector}
 use Rattle.mailbox.specs.Outcome.{Outcome}
 use Rattle.mailbox.specs.EventCommands.{get-event-records, clear-event-records}
 use Rattle.mailbox.specs.Mailbox.{run-command, outcome}

@@ -21,15 +21,15 @@ use Rattle.events.specs.Log.{LogState, ValidState, log-at}
 use Rattle.events.specs.Report as Event
 use Rattle.events.specs.Clear as Clear
 use Rattle.events.proofs.Laws.{report-code-zero, clear-code-zero, valid-new, valid-reported, valid-cleared}
-use Rattle.mailbox.specs.Numbers.{most-units}
+use Rattle.commands.specs.Numbers.{most-units}
 use Rattle.mailbox.specs.State.{DeviceState, lines-of, with-clock, with-policy, with-logs, with-poison}
 use Rattle.mailbox.specs.Outcome.{Outcome}
-use Rattle.mailbox.specs.Commands.{admission}
-use Rattle.mailbox.specs.declared.clock.Clock.{Clock}
-use Rattle.mailbox.specs.Clock.{device-time}
-use Rattle.mailbox.specs.Policy.{set-interrupt-policy}
+use Rattle.commands.specs.Commands.{admission}
+use Rattle.commands.specs.declared.clock.Clock.{Clock}
+use Rattle.commands.specs.Clock.{device-time}
+use Rattle.commands.specs.Policy.{set-interrupt-policy}
 use Rattle.mailbox.specs.EventCommands.{clear-event-records}
-use Rattle.mailbox.specs.PoisonCommands.{line-of, line-code, inject-poison, inject-adds, injection-record, clear-poison}
+use Rattle.commands.specs.PoisonCommands.{line-of, line-code, inject-poison, inject-adds, injection-record, clear-poison}
 use Rattle.mailbox.specs.Mailbox.{run-command, inject, outcome}
 use Rattle.mailbox.specs.DeviceCalls as Device
 use Rattle.mailbox.proofs.Laws.{line-inside, media-zero, five-settings}

@@ -17,12 +17,12 @@ use Rattle.poison.specs.LineTest.{answer-number, answer-type}
 use Rattle.poison.specs.declared.line_test.LineTest.{LineTest}
 use Rattle.poison.specs.declared.line_test.LineTest.the-variants.{Unknown}
 use Rattle.mailbox.specs.State.{DeviceState, ValidDevice, lines-of, state-of}
-use Rattle.mailbox.specs.PoisonCommands.{line-of, line-code}
+use Rattle.commands.specs.PoisonCommands.{line-of, line-code}
 use Rattle.mailbox.specs.Mailbox.{outcome, area-after}
 use Rattle.mailbox.specs.DeviceCalls as Device
-use Rattle.mailbox.specs.Vector.{numbered}
+use Rattle.commands.specs.Vector.{numbered}
 use Rattle.mailbox.specs.declared.device.Device.{Device}
-use Rattle.mailbox.specs.declared.vector.Vector.the-variants.{None}
+use Rattle.commands.specs.declared.vector.Vector.the-variants.{None}
 use Rattle.mailbox.proofs.Laws.{carries-numbered, refusal, event-refusal, media-refusal}
 use Rattle.history.specs.Builds.{Build, Meets, RefusesAll, FixedReply, ChangesNothing, KeepsFirst, of-media}
 use Rattle.wire.proofs.Laws.{either}

@@ -12,13 +12,13 @@ use Rattle.poison.specs.State.{PoisonState}
 use Rattle.poison.specs.Inject.{injects}
 use Rattle.poison.specs.Paper.{Paper, paper-report}
 use Rattle.poison.proofs.Laws.{Consistent, consistent-report, consistent-inject, consistent-clear, Flags, report-flags, inject-flags, clear-flags}
-use Rattle.mailbox.specs.Numbers.{unit-lines}
+use Rattle.commands.specs.Numbers.{unit-lines}
 use Rattle.mailbox.specs.State.{DeviceState, lines-of}
 use Rattle.mailbox.specs.Outcome.{Outcome}
-use Rattle.mailbox.specs.Commands.{admission}
-use Rattle.mailbox.specs.Clock.{device-time}
+use Rattle.commands.specs.Commands.{admission}
+use Rattle.commands.specs.Clock.{device-time}
 use Rattle.mailbox.specs.EventCommands.{clear-event-records}
-use Rattle.mailbox.specs.PoisonCommands.{line-of, line-code, inject-poison, clear-poison}
+use Rattle.commands.specs.PoisonCommands.{line-of, line-code, inject-poison, clear-poison}
 use Rattle.mailbox.specs.Mailbox.{run-command, outcome}
 use Rattle.mailbox.specs.DeviceCalls as Device
 use Rattle.mailbox.proofs.Laws.{line-inside, media-zero, injection-list}

@@ -8,7 +8,7 @@ use Rattle.wire.specs.Returns.{success}
 use Rattle.wire.specs.Wire.{le, field, part}
 use Rattle.labels.specs.Labels.{label-size, zero-area}
 use Rattle.mailbox.specs.Mailbox.{outcome, area-after}
-use Rattle.mailbox.specs.EffectsLog.{effects-log-id}
+use Rattle.commands.specs.EffectsLog.{effects-log-id}
 use Rattle.history.specs.Cases.{new-unit, Case, case}
 
 -- ---- "nobody writes the area between": commands come one after the other, each lent the area as the last one left it, and none of them is a Set LSA that was answered Success. From the area before

@@ -4,7 +4,7 @@ use mathlib.Core.Path.{_≡_}
 use mathlib.Core.Bool.{false}
 use mathlib.Core.List.{[]}
 use Rattle.mailbox.specs.State.{DeviceState}
-use Rattle.mailbox.specs.Vector.{no-vector}
+use Rattle.commands.specs.Vector.{no-vector}
 use Rattle.mailbox.specs.Mailbox.{outcome}
 use Rattle.mailbox.specs.DeviceCalls as Device
 use Rattle.history.specs.Calls.{Call, command, event-report, media-report, line-test, event-status, damage-total}

@@ -12,9 +12,9 @@ use Rattle.poison.specs.State.{Entry}
 use Rattle.poison.specs.Range.{sharing, records-bytes}
 use Rattle.poison.proofs.Laws.{length-records}
 use Rattle.mailbox.specs.declared.device.Device.{Device}
-use Rattle.mailbox.specs.Numbers.{poison-records}
+use Rattle.commands.specs.Numbers.{poison-records}
 use Rattle.mailbox.specs.State.{lines-of, state-of}
-use Rattle.mailbox.specs.PoisonCommands.{list-reply}
+use Rattle.commands.specs.PoisonCommands.{list-reply}
 use Rattle.host.specs.Walk.{halves, first-half}
 use Rattle.host.specs.Walking.{held, walk-of, Askable, RangeAsked, Copied, Wrote}
 use Rattle.host.proofs.WalkLaws.{two-lines, walk-halved, walk-whole}

@@ -17,9 +17,9 @@ use Rattle.poison.specs.State.{Entry, shape, shapes, capacity}
 use Rattle.poison.specs.Range.{kept, shared-start, shared-end, shares, cut-to, sharing}
 use Rattle.poison.proofs.Laws.{chain-sharing, length-records, chain-length}
 use Rattle.mailbox.specs.declared.device.Device.{Device}
-use Rattle.mailbox.specs.Numbers.{poison-records}
+use Rattle.commands.specs.Numbers.{poison-records}
 use Rattle.mailbox.specs.State.{ValidDevice, lines-of, state-of}
-use Rattle.mailbox.specs.PoisonCommands.{line-of}
+use Rattle.commands.specs.PoisonCommands.{line-of}
 use Rattle.host.specs.Walk.{halves, walked, walk}
 use Rattle.host.specs.Walking.{held, walk-of, walk-answer}
 use Rattle.host.proofs.WalkLaws.{two-lines, walk-halved, walk-whole}

@@ -17,11 +17,11 @@ use Rattle.poison.specs.State.{Entry, PoisonState}
 use Rattle.poison.specs.Range.{sharing, records-bytes}
 use Rattle.poison.proofs.Laws.{length-records}
 use Rattle.mailbox.specs.declared.device.Device.{Device}
-use Rattle.mailbox.specs.Numbers.{poison-records}
+use Rattle.commands.specs.Numbers.{poison-records}
 use Rattle.mailbox.specs.Outcome.{Outcome}
 use Rattle.mailbox.specs.State.{lines-of, state-of}
 use Rattle.mailbox.specs.Mailbox.{outcome}
-use Rattle.mailbox.specs.PoisonCommands.{line-of, range-code, list-flags, list-header, list-reply, get-poison-list}
+use Rattle.commands.specs.PoisonCommands.{line-of, range-code, list-flags, list-header, list-reply, get-poison-list}
 use Rattle.wire.specs.declared.done.Done.{Done}
 use Rattle.wire.specs.Done.{Written, Writes, written, refused}
 use Rattle.host_requests.specs.Requests.{payload, countable, build}

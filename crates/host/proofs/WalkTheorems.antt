@@ -14,9 +14,9 @@ use Rattle.wire.specs.Wire.{splice}
 use Rattle.poison.specs.Range.{records-bytes}
 use Rattle.poison.proofs.Laws.{length-records}
 use Rattle.mailbox.specs.declared.device.Device.{Device}
-use Rattle.mailbox.specs.Numbers.{poison-records}
+use Rattle.commands.specs.Numbers.{poison-records}
 use Rattle.mailbox.specs.State.{ValidDevice, lines-of, state-of}
-use Rattle.mailbox.specs.PoisonCommands.{aligned, line-of, range-code}
+use Rattle.commands.specs.PoisonCommands.{aligned, line-of, range-code}
 use Rattle.wire.specs.declared.done.Done.{Done}
 use Rattle.wire.specs.Done.{Written, written, refused, Writes}
 use Rattle.host.specs.Walk.{Lists, read-records}

@@ -10,10 +10,10 @@ use Rattle.wire.specs.Wire.{part, splice}
 use Rattle.poison.specs.State as P
 use Rattle.poison.specs.Range.{records-bytes}
 use Rattle.mailbox.specs.declared.device.Device.{Device}
-use Rattle.mailbox.specs.Numbers.{poison-records}
+use Rattle.commands.specs.Numbers.{poison-records}
 use Rattle.mailbox.specs.State.{DeviceState, ValidDevice, lines-of, state-of}
 use Rattle.mailbox.specs.Mailbox.{outcome}
-use Rattle.mailbox.specs.PoisonCommands.{line-of, range-code, list-reply}
+use Rattle.commands.specs.PoisonCommands.{line-of, range-code, list-reply}
 use Rattle.wire.specs.Done.{Written, written, refused}
 use Rattle.host_requests.specs.Requests.{get-poison-list, opcode, payload}
 use Rattle.host.specs.Walk.{walk}

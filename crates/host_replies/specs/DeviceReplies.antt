@@ -14,12 +14,12 @@ use Rattle.poison.specs.Range.{sharing, records-bytes}
 use Rattle.events.specs.Log.{LogState, log-at}
 use Rattle.events.specs.Get.{flags, replied, joined}
 use Rattle.labels.specs.Labels.{label-size}
-use Rattle.mailbox.specs.Numbers.{event-records, poison-records}
+use Rattle.commands.specs.Numbers.{event-records, poison-records}
 use Rattle.mailbox.specs.State.{DeviceState}
-use Rattle.mailbox.specs.Identity.{version}
-use Rattle.mailbox.specs.Clock.{device-time}
-use Rattle.mailbox.specs.EffectsLog.{effects-log, effects-log-id, effects-log-size, log-offset, log-length}
-use Rattle.mailbox.specs.PoisonCommands.{line-of, list-flags}
+use Rattle.commands.specs.Identity.{version}
+use Rattle.commands.specs.Clock.{device-time}
+use Rattle.commands.specs.EffectsLog.{effects-log, effects-log-id, effects-log-size, log-offset, log-length}
+use Rattle.commands.specs.PoisonCommands.{line-of, list-flags}
 use Rattle.host_replies.specs.declared.counted.Kind.{Kind}
 use Rattle.host_replies.specs.declared.counted.Kind.the-variants.{EventRecords, SupportedLogs, PoisonList}
 use Rattle.host_replies.specs.declared.reply.EventFields.{EventFields}

@@ -13,10 +13,10 @@ use Rattle.events.specs.Log.{log-at}
 use Rattle.events.specs.Clear.{all-flag, other-flags}
 use Rattle.events.proofs.Laws.{NothingReserved, payload-length, payload-reserved, reserved-told}
 use Rattle.labels.specs.Labels.{label-size}
-use Rattle.mailbox.specs.Numbers.{mailbox-size}
+use Rattle.commands.specs.Numbers.{mailbox-size}
 use Rattle.mailbox.specs.State.{DeviceState, with-policy}
 use Rattle.mailbox.specs.Outcome.{changes, refused}
-use Rattle.mailbox.specs.Policy.{set-policy}
+use Rattle.commands.specs.Policy.{set-policy}
 use Rattle.mailbox.specs.Mailbox.{outcome}
 use Rattle.mailbox.proofs.Laws.{modes-known}
 use Rattle.host_requests.specs.Requests.{Request, clear-event-records, set-event-interrupt-policy, countable, opcode, payload}

@@ -20,17 +20,18 @@ use Rattle.events.specs.Clear as Clear
 use Rattle.events.specs.Clear.{ClearedState, all-flag, other-flags, count-field, handles-at, clear-payload, clear-code, clear-log-code, clear-size, clear-log, clear-taken}
 use Rattle.events.proofs.Laws.{payload-length, payload-log, payload-flags, payload-count, payload-reserved, payload-handles}
 use Rattle.labels.specs.Labels.{label-size}
-use Rattle.mailbox.specs.Numbers.{mailbox-size, event-records}
+use Rattle.commands.specs.Numbers.{mailbox-size, event-records}
 use Rattle.mailbox.specs.State.{DeviceState, lines-of, with-policy, with-logs, with-poison}
-use Rattle.mailbox.specs.Policy.{known-modes, set-policy, set-interrupt-policy}
-use Rattle.mailbox.specs.Outcome.{reads, replied, no-reply, changes, refused}
-use Rattle.mailbox.specs.Commands.{commands, admission}
-use Rattle.mailbox.specs.Clock as Clock
+use Rattle.commands.specs.Policy.{known-modes, set-policy, set-interrupt-policy}
+use Rattle.commands.specs.Reply.{replied, no-reply}
+use Rattle.mailbox.specs.Outcome.{reads, changes, refused}
+use Rattle.commands.specs.Commands.{commands, admission}
+use Rattle.commands.specs.Clock as Clock
 use Rattle.mailbox.specs.EventCommands as Events
-use Rattle.mailbox.specs.EffectsLog as Logs
-use Rattle.mailbox.specs.PoisonCommands as Poison
-use Rattle.mailbox.specs.PoisonCommands.{ListChange}
-use Rattle.mailbox.specs.Clock.{device-time}
+use Rattle.commands.specs.EffectsLog as Logs
+use Rattle.commands.specs.PoisonCommands as Poison
+use Rattle.commands.specs.PoisonCommands.{ListChange}
+use Rattle.commands.specs.Clock.{device-time}
 use Rattle.poison.specs.Runs.{slots}
 use Rattle.poison.specs.State.{PoisonState, covers}
 use Rattle.poison.specs.Inject.{with-entry}

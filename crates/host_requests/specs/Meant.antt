@@ -15,17 +15,18 @@ use Rattle.events.specs.Get.{reply-bytes}
 use Rattle.events.specs.Clear.{ClearedState, all-flag, other-flags, mismatch, mismatch-code, without, clear-taken}
 use Rattle.events.specs.Clear.{log-field, count-field, handles-at}
 use Rattle.labels.specs.Labels.{label-size}
-use Rattle.mailbox.specs.Numbers.{mailbox-size, event-records}
+use Rattle.commands.specs.Numbers.{mailbox-size, event-records}
 use Rattle.mailbox.specs.State.{DeviceState, lines-of, with-clock, with-policy, with-logs, with-poison}
-use Rattle.mailbox.specs.Outcome.{Reply, Outcome, replied, no-reply, reads, changes, refused}
-use Rattle.mailbox.specs.Clock.{device-time}
-use Rattle.mailbox.specs.Clock as Clock
-use Rattle.mailbox.specs.Policy.{get-policy, known-modes, set-policy}
-use Rattle.mailbox.specs.EffectsLog.{effects-log, effects-log-id, effects-log-size, log-offset, log-length}
-use Rattle.mailbox.specs.EffectsLog as Logs
-use Rattle.mailbox.specs.Identity as Identity
-use Rattle.mailbox.specs.PoisonCommands.{line-of, line-code, range-code, list-reply, injection-record}
-use Rattle.mailbox.specs.Commands.{admission}
+use Rattle.commands.specs.Reply.{Reply, replied, no-reply}
+use Rattle.mailbox.specs.Outcome.{Outcome, reads, changes, refused}
+use Rattle.commands.specs.Clock.{device-time}
+use Rattle.commands.specs.Clock as Clock
+use Rattle.commands.specs.Policy.{get-policy, known-modes, set-policy}
+use Rattle.commands.specs.EffectsLog.{effects-log, effects-log-id, effects-log-size, log-offset, log-length}
+use Rattle.commands.specs.EffectsLog as Logs
+use Rattle.commands.specs.Identity as Identity
+use Rattle.commands.specs.PoisonCommands.{line-of, line-code, range-code, list-reply, injection-record}
+use Rattle.commands.specs.Commands.{admission}
 use Rattle.mailbox.specs.DeviceCalls.{event-report}
 use Rattle.mailbox.specs.Mailbox.{reports, outcome}
 use Rattle.host_requests.specs.Requests.{Request, get-event-records, clear-event-records, get-event-interrupt-policy, set-event-interrupt-policy, get-timestamp, set-timestamp, get-supported-logs, get-log, identify, get-poison-list, inject-poison, clear-poison, opcode, payload}

@@ -6,11 +6,11 @@ use native.Mathlib.Decide.{ℕ-discrete}
 use borrow.Author.Tests.{eq-eqb, ne-eqb, le-leb}
 use lib.ListN.{length}
 use Rattle.labels.specs.Labels.{label-size}
-use Rattle.mailbox.specs.Numbers.{mailbox-size}
+use Rattle.commands.specs.Numbers.{mailbox-size}
 use Rattle.mailbox.specs.State.{DeviceState}
-use Rattle.mailbox.specs.Commands.{commands, admission}
+use Rattle.commands.specs.Commands.{commands, admission}
 use Rattle.mailbox.specs.Mailbox.{run-command, outcome}
-use Rattle.mailbox.proofs.AdmissionLaws.{admission-at}
+use Rattle.commands.proofs.Laws.{admission-at}
 
 module _ (d : DeviceState) (op : ℕ) (p : List ℕ) (time : ℕ) (area : List ℕ) (room : ℕ) where
   pub admitted-runs : admission op (length p) (length area) room ≡ 0 → outcome d op p time area room ≡ run-command d op p time area

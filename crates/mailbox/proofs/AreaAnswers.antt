@@ -11,8 +11,8 @@ use Rattle.wire.specs.Returns.{success}
 use Rattle.wire.specs.declared.done.Done.{Done}
 use Rattle.wire.specs.Done.{Writes}
 use Rattle.labels.specs.Labels.{label-size, get-labels, set-labels, Sets}
-use Rattle.mailbox.specs.Numbers.{mailbox-size}
-use Rattle.mailbox.specs.Commands.{admission}
+use Rattle.commands.specs.Numbers.{mailbox-size}
+use Rattle.commands.specs.Commands.{admission}
 use Rattle.mailbox.specs.Mailbox.{run-command, area-after}
 use Rattle.mailbox.specs.ByParts.{of-area, AreaAnswered}
 use Rattle.mailbox.proofs.Answers.{refusal-answer, answer-at, read-answer, change-answer}

@@ -22,27 +22,28 @@ use Rattle.mailbox.specs.declared.device.Made.{Made}
 use Rattle.mailbox.specs.declared.device_calls.EventAnswer.{EventAnswer}
 use Rattle.mailbox.specs.declared.device_calls.MediaAnswer.{MediaAnswer}
 use Rattle.mailbox.specs.declared.device_calls.LineAnswer.{LineAnswer}
-use Rattle.mailbox.specs.declared.vector.Vector.the-variants.{None}
-use Rattle.mailbox.specs.Vector.{no-vector, raised}
+use Rattle.commands.specs.declared.vector.Vector.the-variants.{None}
+use Rattle.commands.specs.Vector.{no-vector, raised}
 use Rattle.mailbox.specs.Contracts.{Answered, Makes, EventDone, MediaDone, LineDone}
 use Rattle.wire.specs.Returns.{invalid-input}
 use Rattle.wire.proofs.Laws.{either}
-use Rattle.mailbox.specs.Numbers.{mailbox-size, most-units}
-use Rattle.mailbox.specs.Commands.{admission}
-use Rattle.mailbox.specs.Outcome.{Reply, replied, no-reply, Outcome, reads, changes}
-use Rattle.mailbox.specs.Clock.{device-time, get-timestamp}
-use Rattle.mailbox.specs.Policy.{get-policy, set-interrupt-policy}
-use Rattle.mailbox.specs.EffectsLog.{effects-log-size, effects-log-id, log-offset, log-length, get-supported-logs, get-log}
-use Rattle.mailbox.specs.Identity.{identify}
+use Rattle.commands.specs.Numbers.{mailbox-size, most-units}
+use Rattle.commands.specs.Commands.{admission}
+use Rattle.commands.specs.Reply.{Reply, replied, no-reply}
+use Rattle.mailbox.specs.Outcome.{Outcome, reads, changes}
+use Rattle.commands.specs.Clock.{device-time, get-timestamp}
+use Rattle.commands.specs.Policy.{get-policy, set-interrupt-policy}
+use Rattle.commands.specs.EffectsLog.{effects-log-size, effects-log-id, log-offset, log-length, get-supported-logs, get-log}
+use Rattle.commands.specs.Identity.{identify}
 use Rattle.mailbox.specs.EventCommands.{get-event-records, clear-event-records}
-use Rattle.mailbox.specs.PoisonCommands.{ListChange, line-of, line-code, range-code, get-poison-list, inject-poison, inject-adds, clear-poison}
+use Rattle.commands.specs.PoisonCommands.{ListChange, line-of, line-code, range-code, get-poison-list, inject-poison, inject-adds, clear-poison}
 use Rattle.labels.specs.Labels.{get-labels}
 use Rattle.labels.proofs.Laws.{get-refused}
 use Rattle.mailbox.specs.Mailbox.{area-after, run-command, inject, outcome, changes-policy, changes-list}
 use Rattle.mailbox.specs.DeviceCalls.{new-device, MakeOutcome, make, event-report, media-code, MediaOutcome, media-report, LineOutcome, line-test}
 use Rattle.mailbox.proofs.AreaAnswers.{refusal-leaves}
-use Rattle.mailbox.proofs.PolicyLaws.{refused-set-changes-nothing}
-use Rattle.mailbox.proofs.VectorLaws.{raised-later}
+use Rattle.commands.proofs.Laws.{refused-set-changes-nothing}
+use Rattle.commands.proofs.Laws.{raised-later}
 
 -- a number that is not 0 comes with no reply, the state as it was and no vector
 pub record Refuses (d : DeviceState) (o : Outcome) : Type 0 where

@@ -19,18 +19,18 @@ use Rattle.events.specs.declared.report.Reported.{Reported as LogReported}
 use Rattle.events.proofs.Laws.{report-code-zero, event-report-refused, event-report-taken, valid-set}
 use Rattle.mailbox.specs.declared.device.Device.{Device}
 use Rattle.wire.specs.Returns.{success, invalid-input, need}
-use Rattle.mailbox.specs.Numbers.{most-units}
+use Rattle.commands.specs.Numbers.{most-units}
 use Rattle.mailbox.specs.State.{DeviceState, ValidDevice, state-of, lines-of, with-logs, with-poison}
-use Rattle.mailbox.specs.Clock.{device-time}
-use Rattle.mailbox.specs.PoisonCommands.{line-of, line-code, range-code}
+use Rattle.commands.specs.Clock.{device-time}
+use Rattle.commands.specs.PoisonCommands.{line-of, line-code, range-code}
 use Rattle.mailbox.specs.DeviceCalls.{new-device, make, MakeOutcome, event-report, media-code, media-report, MediaOutcome, line-test, LineOutcome}
 use Rattle.poison.specs.LineTest.{answer-number, answer-type}
-use Rattle.mailbox.specs.Vector.{no-vector, numbered, raised}
+use Rattle.commands.specs.Vector.{no-vector, numbered, raised}
 use Rattle.mailbox.specs.Contracts.{Makes, EventDone, MediaDone, LineDone}
 use Rattle.wire.proofs.Laws.{need-fails, need-holds, need-zero}
-use Rattle.mailbox.proofs.Addresses.{range-ends}
+use Rattle.commands.proofs.Laws.{range-ends}
 use Rattle.mailbox.proofs.Answers.{valid-device}
-use Rattle.mailbox.proofs.VectorLaws.{carries-numbered, carries-equal, raised-later}
+use Rattle.commands.proofs.Laws.{carries-numbered, carries-equal, raised-later}
 
 -- a check that refuses gives its number, whatever follows
 need-refuses : (t : Bool) (code rest : ℕ) → code ≡ need t invalid-input 0 → (code ≡ 0 → ⊥) → code ≡ need t invalid-input rest

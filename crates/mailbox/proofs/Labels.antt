@@ -14,12 +14,12 @@ use Rattle.wire.specs.Returns.{success, small-buffer, invalid-input, need}
 use Rattle.wire.specs.Done.{Written, written}
 use Rattle.labels.specs.Labels.{label-size, label-offset, labels-asked, labels-reserved, label-data, get-labels, set-code, set-labels, SameRange, Apart}
 use Rattle.labels.proofs.Laws.{read-back, apart-kept, get-inside, get-outside, reserved-refused, past-refused, inside-accepted}
-use Rattle.mailbox.specs.Numbers.{mailbox-size}
+use Rattle.commands.specs.Numbers.{mailbox-size}
 use Rattle.mailbox.specs.State.{DeviceState}
 use Rattle.mailbox.specs.Outcome.{Outcome, reads, changes, refused}
-use Rattle.mailbox.specs.Commands.{commands, admission}
+use Rattle.commands.specs.Commands.{commands, admission}
 use Rattle.mailbox.specs.Mailbox.{run-command, outcome, area-after}
-use Rattle.mailbox.proofs.AdmissionLaws.{admission-area}
+use Rattle.commands.proofs.Laws.{admission-area}
 use Rattle.mailbox.proofs.Accepted.{admitted-runs, accepted-runs}
 
 -- ---- an area that has not 4,096 bytes: 0100h with the first check, whatever the command, the payload and the reply buffer

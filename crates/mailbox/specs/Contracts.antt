@@ -12,7 +12,6 @@ use Rattle.poison.specs.declared.list.PoisonList.{PoisonList}
 use Rattle.poison.specs.LineTest.{answer-number, answer-type}
 use Rattle.events.specs.declared.status.Status.{Status}
 use Rattle.events.specs.Status.{StatusOutcome}
-use Rattle.mailbox.specs.declared.policy.PolicySet.{PolicySet}
 use Rattle.mailbox.specs.declared.device.Device.{Device}
 use Rattle.mailbox.specs.declared.device.Made.{Made}
 use Rattle.mailbox.specs.declared.device.Answer.{Answer}
@@ -20,30 +19,9 @@ use Rattle.mailbox.specs.declared.device_calls.EventAnswer.{EventAnswer}
 use Rattle.mailbox.specs.declared.device_calls.MediaAnswer.{MediaAnswer}
 use Rattle.mailbox.specs.declared.device_calls.LineAnswer.{LineAnswer}
 use Rattle.mailbox.specs.State.{ValidDevice, state-of}
-use Rattle.mailbox.specs.Vector.{Carries}
+use Rattle.commands.specs.Vector.{Carries}
 use Rattle.mailbox.specs.Outcome.{Outcome}
-use Rattle.mailbox.specs.Policy.{PolicyChange}
-use Rattle.mailbox.specs.PoisonCommands.{ListChange, inject-poison, inject-adds}
 use Rattle.mailbox.specs.DeviceCalls.{MakeOutcome, EventOutcome, MediaOutcome, LineOutcome}
--- a command that reads, with the reply buffer before and after it: "On Success of length n the first n reply bytes are written, the others stay."
-pub use Rattle.wire.specs.Done.{Writes as Replied}
-
--- Set Event Interrupt Policy: its number, and the settings that follow
-pub record PolicyDone (o : PolicyChange) (r : PolicySet) : Type 0 where
-  pub code : r .code ≡ o .code
-  pub policy : r .policy ≡ o .policy
-
--- a command that changes the poison list, by its return number c and the list r that it leaves; a refusal leaves the very same list
-pub record ListDone (o : ListChange) (lines : ℕ) (l : PoisonList) (c : ℕ) (r : PoisonList) : Type 0 where
-  pub code : c ≡ o .code
-  pub list : P.state-of r ≡ o .list
-  pub refused : (c ≡ success → ⊥) → r ≡ l
-  pub valid : P.ValidList lines r
-
--- Inject Poison in the list: the same, and whether it added an entry (a)
-pub record InjectDone (lines : ℕ) (l : PoisonList) (p : List ℕ) (c : ℕ) (a : Bool) (r : PoisonList) : Type 0 where
-  pub done : ListDone (inject-poison lines (P.state-of l) p) lines l c r
-  pub added : a ≡ inject-adds lines (P.state-of l) p
 
 -- `command`: number, length, vector, next device, every byte of the buffer; the premise given back; a refusal hands back the very same device
 pub record Answered (o : Outcome) (d : Device) (r : Answer) (before after : List ℕ) : Type 0 where

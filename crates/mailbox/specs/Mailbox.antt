@@ -7,16 +7,16 @@ use lib.ListN.{length}
 use Rattle.labels.specs.Labels.{get-labels, set-code, set-labels}
 use Rattle.wire.specs.Wire.{field}
 use Rattle.wire.specs.Returns.{success, unsupported, need}
-use Rattle.mailbox.specs.Numbers.{mailbox-size}
+use Rattle.commands.specs.Numbers.{mailbox-size}
 use Rattle.mailbox.specs.State.{DeviceState, lines-of, with-clock, with-policy, with-poison}
 use Rattle.mailbox.specs.Outcome.{Outcome, reads, changes, refused}
-use Rattle.mailbox.specs.Commands.{admission}
-use Rattle.mailbox.specs.Clock.{device-time, get-timestamp, set-timestamp}
-use Rattle.mailbox.specs.Policy.{PolicyChange, get-policy, set-interrupt-policy}
-use Rattle.mailbox.specs.EffectsLog.{get-supported-logs, get-log}
-use Rattle.mailbox.specs.Identity.{identify}
+use Rattle.commands.specs.Commands.{admission}
+use Rattle.commands.specs.Clock.{device-time, get-timestamp, set-timestamp}
+use Rattle.commands.specs.Policy.{PolicyChange, get-policy, set-interrupt-policy}
+use Rattle.commands.specs.EffectsLog.{get-supported-logs, get-log}
+use Rattle.commands.specs.Identity.{identify}
 use Rattle.mailbox.specs.EventCommands.{get-event-records, clear-event-records}
-use Rattle.mailbox.specs.PoisonCommands.{ListChange, get-poison-list, inject-poison, inject-adds, injection-record, clear-poison}
+use Rattle.commands.specs.PoisonCommands.{ListChange, get-poison-list, inject-poison, inject-adds, injection-record, clear-poison}
 use Rattle.mailbox.specs.DeviceCalls.{EventOutcome, event-report}
 
 -- the outcome of a command that changes the settings, and of one that changes the poison list

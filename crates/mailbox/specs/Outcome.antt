@@ -2,10 +2,9 @@
 -- Assumes nothing.
 use Prim.Native.Nat.{ℕ}
 use mathlib.Core.List.{List, []}
+use Rattle.commands.specs.Reply.{Reply}
 use Rattle.mailbox.specs.State.{DeviceState}
-use Rattle.mailbox.specs.Vector.{no-vector}
--- what a command that reads gives, a number and its reply: "Every non-zero number returns reply length 0"
-pub use Rattle.wire.specs.Done.{Written as Reply, written as replied, refused as no-reply}
+use Rattle.commands.specs.Vector.{no-vector}
 
 -- what any command gives: its number, its reply, the vector to raise (document 02, W-204) and the device that follows
 pub record Outcome : Type 0 where

@@ -4,9 +4,9 @@ use Prim.Native.Nat.{ℕ, _+_, _*_, _≤_}
 use mathlib.Core.List.{List}
 use Rattle.poison.specs.State as P
 use Rattle.events.specs.Log as E
-use Rattle.mailbox.specs.declared.clock.Clock.{Clock}
+use Rattle.commands.specs.declared.clock.Clock.{Clock}
 use Rattle.mailbox.specs.declared.device.Device.{Device}
-use Rattle.mailbox.specs.Numbers.{unit-lines, most-units}
+use Rattle.commands.specs.Numbers.{unit-lines, most-units}
 
 -- the units of each kind of memory; the clock; the interrupt policy, a byte a log; the five logs; the poison list
 pub record DeviceState : Type 0 where

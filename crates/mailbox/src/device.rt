@@ -1,8 +1,8 @@
 // The device: what it holds, how it is made, and its mailbox.
 use crate::by_parts;
-use crate::clock::Clock;
-use crate::vector;
-use crate::vector::Vector;
+use commands::clock::Clock;
+use commands::vector;
+use commands::vector::Vector;
 use events::log;
 use events::log::Log;
 use poison::list::PoisonList;
@@ -10,7 +10,7 @@ use wire::returns;
 ghost use mathlib.Core.Path.{_≡_};
 ghost use Prim.Native.Nat.{_+_, _≤_};
 ghost use lib.ListN.{length};
-ghost use Rattle.mailbox.specs.Numbers.{most-units};
+ghost use Rattle.commands.specs.Numbers.{most-units};
 ghost use Rattle.mailbox.specs.State.{ValidDevice, state-of};
 ghost use Rattle.mailbox.specs.Mailbox.{outcome, area-after};
 ghost use Rattle.mailbox.specs.DeviceCalls.{make, new-device};
@@ -49,16 +49,13 @@ impl Device {
         requires { ⌜ (1 ≤ volatile + persistent) × (volatile + persistent ≤ most-units) ⌝ }
         ensures { λ r. ⌜ (state-of r ≡ new-device volatile persistent) × ValidDevice r ⌝ }
     {
+        let clock = Clock::unset();
         let logs = log::new_logs();
         let poison = PoisonList::new();
         Device {
             volatile,
             persistent,
-            clock: Clock {
-                set: false,
-                value: 0,
-                since: 0,
-            },
+            clock,
             policy: [0u8; 5],
             logs,
             poison,

@@ -3,8 +3,8 @@
 // second answer for a refusal, parts that do not change would be copied too.
 use crate::by_parts;
 use crate::device::Device;
-use crate::vector;
-use crate::vector::Vector;
+use commands::vector;
+use commands::vector::Vector;
 use events::status;
 use events::status::Status;
 use poison::line_test::LineTest;

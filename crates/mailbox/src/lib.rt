@@ -2,13 +2,6 @@
 // poison list and of the event logs: their contracts alone are cited, and no array of theirs is read here.
 // Public functions of a device assume one made here and changed by these calls (`ValidDevice`) and nothing else, and give such a device back. Those of `by_parts`
 // assume as much of the parts of a device that they are handed.
-mod admission;
 pub mod by_parts;
-pub mod clock;
 pub mod device;
 pub mod device_calls;
-mod effects_log;
-mod identity;
-mod poison_commands;
-mod policy;
-pub mod vector;

@@ -10,7 +10,7 @@ use host_records::walks;
 use mailbox::device::Answer;
 use mailbox::device::Device;
 use mailbox::device_calls::EventAnswer;
-use mailbox::vector::vector_number;
+use commands::vector::vector_number;
 use poison::line_test;
 use protocol::calls;
 use protocol::calls::Served;

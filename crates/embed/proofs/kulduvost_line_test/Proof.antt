@@ -50,7 +50,7 @@ use Rattle.mailbox.specs.DeviceCalls.{line-test}
 use Rattle.embed.specs.Left.{LineTold, seen}
 use Rattle.poison.specs.State.{capacity, ValidRuns}
 use Rattle.poison.specs.LineTest.{list-in}
-use Rattle.mailbox.specs.Numbers.{most-units}
+use Rattle.commands.specs.Numbers.{most-units}
 use Rattle.mailbox.specs.declared.device.Device.{Device}
 use Rattle.mailbox.proofs.device.Device as DeviceT
 use Rattle.mailbox.proofs.device.Device.Laws as DeviceL

@@ -43,7 +43,7 @@ use denote.Triple.Walked.{says, needs, Stays, stay-ref, stay-none, walkOf, AllGo
 use denote.Exit.{yes}
 use Rattle.mailbox.specs.State.{ValidDevice}
 use Rattle.poison.specs.State.{list-of, ValidSlots}
-use Rattle.mailbox.specs.Numbers.{unit-lines, most-units}
+use Rattle.commands.specs.Numbers.{unit-lines, most-units}
 use Rattle.mailbox.specs.ByParts.{MediaIn}
 use Rattle.mailbox.specs.declared.device.Device.{Device}
 use Rattle.mailbox.proofs.device.Device as DeviceT
@@ -57,8 +57,8 @@ use Rattle.poison.proofs.list.PoisonList.Laws as PoisonListL
 use Rattle.mailbox.specs.declared.by_parts.MediaLeft.{MediaLeft}
 use Rattle.mailbox.proofs.by_parts.MediaLeft as MediaLeftT
 use Rattle.mailbox.proofs.by_parts.MediaLeft.Laws as MediaLeftL
-use Rattle.mailbox.proofs.clock.Clock as ClockT
-use Rattle.mailbox.proofs.clock.Clock.Laws as ClockL
+use Rattle.commands.proofs.clock.Clock as ClockT
+use Rattle.commands.proofs.clock.Clock.Laws as ClockL
 use Rattle.embed.proofs.Parts.{media-report-in-place-asks, media-report-in-place-gives}
 use Rattle.embed.proofs.Steps.{so, holds, free-all}
 use Rattle.embed.proofs.Lending.{Back, Starts, Lengths, Kinds, with-slots, slots-out, slots-in}

@@ -49,7 +49,7 @@ use Rattle.mailbox.specs.State.{ValidDevice}
 use Rattle.mailbox.specs.ByParts.{of-injection, log-at, InjectAnswered}
 use Rattle.poison.specs.State.{list-of, ValidSlots}
 use Rattle.events.specs.Log.{ValidLog}
-use Rattle.mailbox.specs.Numbers.{unit-lines, most-units}
+use Rattle.commands.specs.Numbers.{unit-lines, most-units}
 use Rattle.mailbox.specs.declared.device.Device.{Device}
 use Rattle.mailbox.proofs.device.Device as DeviceT
 use Rattle.mailbox.proofs.device.Device.Laws as DeviceL
@@ -65,8 +65,8 @@ use Rattle.events.proofs.log.Log.Laws as LogL
 use Rattle.mailbox.specs.declared.by_parts.InjectLeft.{InjectLeft}
 use Rattle.mailbox.proofs.by_parts.InjectLeft as InjectLeftT
 use Rattle.mailbox.proofs.by_parts.InjectLeft.Laws as InjectLeftL
-use Rattle.mailbox.proofs.clock.Clock as ClockT
-use Rattle.mailbox.proofs.clock.Clock.Laws as ClockL
+use Rattle.commands.proofs.clock.Clock as ClockT
+use Rattle.commands.proofs.clock.Clock.Laws as ClockL
 use Rattle.embed.proofs.Parts.{inject-in-place-asks, inject-in-place-gives}
 use Rattle.embed.proofs.Steps.{so, holds, free-all}
 use Rattle.embed.proofs.Lending.{Back, Starts, Lengths, Kinds, with-slots, slots-out, slots-in}

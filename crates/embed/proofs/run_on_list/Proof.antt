@@ -48,7 +48,7 @@ use denote.Exit.{yes}
 use Rattle.mailbox.specs.State.{ValidDevice}
 use Rattle.mailbox.specs.ByParts.{of-list, ListAnswered}
 use Rattle.poison.specs.State.{list-of, ValidSlots}
-use Rattle.mailbox.specs.Numbers.{unit-lines, most-units}
+use Rattle.commands.specs.Numbers.{unit-lines, most-units}
 use Rattle.mailbox.specs.declared.device.Device.{Device}
 use Rattle.mailbox.proofs.device.Device as DeviceT
 use Rattle.mailbox.proofs.device.Device.Laws as DeviceL
@@ -61,8 +61,8 @@ use Rattle.poison.proofs.list.PoisonList.Laws as PoisonListL
 use Rattle.mailbox.specs.declared.by_parts.ListLeft.{ListLeft}
 use Rattle.mailbox.proofs.by_parts.ListLeft as ListLeftT
 use Rattle.mailbox.proofs.by_parts.ListLeft.Laws as ListLeftL
-use Rattle.mailbox.proofs.clock.Clock as ClockT
-use Rattle.mailbox.proofs.clock.Clock.Laws as ClockL
+use Rattle.commands.proofs.clock.Clock as ClockT
+use Rattle.commands.proofs.clock.Clock.Laws as ClockL
 use Rattle.embed.proofs.Parts.{list-command-in-place-asks, list-command-in-place-gives}
 use Rattle.embed.proofs.Steps.{so, holds, free-all}
 use Rattle.embed.proofs.Lending.{Back, Starts, Lengths, Kinds, with-slots, slots-out, slots-in}

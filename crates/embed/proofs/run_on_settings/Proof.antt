@@ -46,7 +46,7 @@ use denote.Exit.{yes}
 use Rattle.labels.specs.Labels.{label-size}
 use Rattle.mailbox.specs.State.{ValidDevice}
 use Rattle.mailbox.specs.ByParts.{of-area, of-list, of-injection, of-log, SettingsAnswered}
-use Rattle.mailbox.specs.Numbers.{most-units}
+use Rattle.commands.specs.Numbers.{most-units}
 use Rattle.mailbox.specs.declared.device.Device.{Device}
 use Rattle.mailbox.proofs.device.Device as DeviceT
 use Rattle.mailbox.proofs.device.Device.Laws as DeviceL
@@ -56,9 +56,9 @@ use Rattle.embed.proofs.Done.Laws as DoneL
 use Rattle.mailbox.specs.declared.by_parts.SettingsParts.{SettingsParts}
 use Rattle.mailbox.proofs.by_parts.SettingsParts as SettingsPartsT
 use Rattle.mailbox.proofs.by_parts.SettingsParts.Laws as SettingsPartsL
-use Rattle.mailbox.specs.declared.clock.Clock.{Clock}
-use Rattle.mailbox.proofs.clock.Clock as ClockT
-use Rattle.mailbox.proofs.clock.Clock.Laws as ClockL
+use Rattle.commands.specs.declared.clock.Clock.{Clock}
+use Rattle.commands.proofs.clock.Clock as ClockT
+use Rattle.commands.proofs.clock.Clock.Laws as ClockL
 use Rattle.embed.proofs.Parts.{settings-command-asks, settings-command-gives}
 use Rattle.embed.proofs.Steps.{so, holds, free-all}
 use Rattle.embed.proofs.Indexed.{numbers}

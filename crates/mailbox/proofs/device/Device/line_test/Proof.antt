@@ -3,9 +3,9 @@ use mathlib.Core.Path.{_≡_, refl, sym, _∙_}
 use Prim.Native.Nat.{_-_}
 use native.Mathlib.Omega.{arith}
 use Rattle.mailbox.specs.State.{state-of, lines-of}
-use Rattle.mailbox.specs.PoisonCommands.{line-code}
-use Rattle.mailbox.proofs.Addresses.{line-inside}
-use Rattle.mailbox.proofs.ListAnswers.{device-lines, device-any}
+use Rattle.commands.specs.PoisonCommands.{line-code}
+use Rattle.commands.proofs.Laws.{line-inside}
+use Rattle.commands.proofs.Laws.{device-lines, device-any}
 use Rattle.mailbox.proofs.DeviceAnswers.{line-refused, line-tested}
 use Rattle.mailbox.proofs.device.Device.line_test.Statement.{statement}
 use Rattle.mailbox.proofs.device.Device.line_test.Tie as tie

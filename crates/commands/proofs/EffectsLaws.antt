@@ -1,0 +1,66 @@
+-- The Command Effects Log by its bytes, the cases of Get Log, and Get Supported Logs put together from its fields. Assumes nothing.
+use mathlib.Core.Path.{_≡_, refl}
+use mathlib.Core.Bool.{true, false}
+use mathlib.Core.List.{List, [], _∷_}
+use Prim.Native.Nat.{ℕ, _+_, _≤_, _<_}
+use native.Mathlib.Omega.{arith}
+use lib.ListN.{length}
+use borrow.Author.Tests.{le-leb, lt-leb}
+use Rattle.wire.specs.Wire.{le, part, same, splice}
+use Rattle.wire.specs.Returns.{invalid-input, invalid-log}
+use Rattle.commands.specs.Numbers.{mailbox-size}
+use Rattle.commands.specs.Reply.{replied, no-reply}
+use Rattle.commands.specs.Commands.{commands}
+use Rattle.commands.specs.EffectsLog.{effects-log, effects-log-size, effects-log-id, get-supported-logs, log-offset, log-length, get-log}
+use Rattle.commands.proofs.Replies.{field-more}
+
+-- the bytes of the source's tables
+abbrev pub effects-bytes : List ℕ
+effects-bytes =
+    0 ∷ 1 ∷ 0 ∷ 0 ∷ 1 ∷ 1 ∷ 16 ∷ 0 ∷ 2 ∷ 1 ∷ 0 ∷ 0 ∷ 3 ∷ 1 ∷ 2 ∷ 0 ∷ 0 ∷ 3 ∷ 0 ∷ 0 ∷ 1 ∷ 3 ∷ 8 ∷ 0 ∷ 0 ∷ 4 ∷ 0 ∷ 0 ∷ 1 ∷ 4 ∷ 0 ∷ 0 ∷ 0 ∷ 64 ∷ 0 ∷ 0 ∷ 2 ∷ 65 ∷ 0 ∷ 0 ∷ 3 ∷ 65 ∷ 6 ∷ 0 ∷ 0 ∷ 67 ∷ 0 ∷ 0 ∷ 1 ∷ 67 ∷ 0 ∷ 0 ∷ 2 ∷ 67 ∷ 0 ∷ 0 ∷ []
+
+abbrev pub id-bytes : List ℕ
+id-bytes = 13 ∷ 169 ∷ 192 ∷ 181 ∷ 191 ∷ 65 ∷ 75 ∷ 120 ∷ 143 ∷ 121 ∷ 150 ∷ 177 ∷ 98 ∷ 59 ∷ 63 ∷ 23 ∷ []
+
+-- The Command Effects Log, computed from the table of commands, has these bytes.
+pub effects-are : effects-bytes ≡ effects-log
+unfolding effects-log commands le
+effects-are = refl
+
+-- It has 56 bytes.
+pub effects-size : length effects-log ≡ effects-log-size
+unfolding effects-log commands le
+effects-size = refl
+
+-- ---- the cases of Get Log
+module _ (p : List ℕ) where
+  pub log-other : same (part 0 16 p) effects-log-id ≡ false → get-log p ≡ no-reply invalid-log
+  unfolding get-log
+  log-other i = simp i
+
+  module _ (i : same (part 0 16 p) effects-log-id ≡ true) where
+    pub log-long : mailbox-size < log-length p → get-log p ≡ no-reply invalid-input
+    unfolding get-log
+    log-long l = simp (i, lt-leb _ _ l)
+
+    pub log-past : log-length p ≤ mailbox-size → effects-log-size < log-offset p + log-length p → get-log p ≡ no-reply invalid-input
+    unfolding get-log
+    log-past l m = simp (i, le-leb _ _ l, lt-leb _ _ m)
+
+    pub log-part : log-length p ≤ mailbox-size → log-offset p + log-length p ≤ effects-log-size
+        → get-log p ≡ replied (part (log-offset p) (log-length p) effects-log)
+    unfolding get-log
+    log-part l m = simp (i, le-leb _ _ l, le-leb _ _ m)
+
+-- ---- Get Supported Logs
+pub supported-written : (xs : List ℕ) → 28 ≤ length xs
+    → splice 24 (le 4 effects-log-size) (splice 8 (part 0 16 id-bytes) (splice 2 (le 6 0) (splice 0 (le 2 1) xs))) ≡ splice 0 (get-supported-logs .bytes) xs
+unfolding get-supported-logs effects-log-id part le
+supported-written xs h =
+    field-more 24 _ (le 4 56) xs _ refl (omega arith)
+    (field-more 8 _ id-bytes xs _ refl (omega arith)
+    (field-more 2 (le 2 1) (le 6 0) xs _ refl (omega arith) refl))
+
+pub supported-length : 28 ≡ length (get-supported-logs .bytes)
+unfolding get-supported-logs effects-log-id le
+supported-length = refl
