@@ -186,4 +186,3 @@ module _ {units lines : ℕ} (few : units ≤ most-units) (e : lines ≡ unit-li
 
   pub device-any : {l : PoisonList} → ValidList (unit-lines * units) l → ValidList capacity l
   device-any = valid-more (omega (arith, few))
-

@@ -1,6 +1,7 @@
 // Each record given to the device, and its line printed (document 10, "Records of the base" and the rows of W-204 and W-206). A record's function gives the device
 // that follows. The records of the host library and the lines of the label store's records have modules of their own.
 use crate::label_records;
+use commands::vector::vector_number;
 use host_records::buffer;
 use host_records::buffer::LINE_ROOM;
 use host_records::replies;
@@ -10,7 +11,6 @@ use host_records::walks;
 use mailbox::device::Answer;
 use mailbox::device::Device;
 use mailbox::device_calls::EventAnswer;
-use commands::vector::vector_number;
 use poison::line_test;
 use protocol::calls;
 use protocol::calls::Served;
