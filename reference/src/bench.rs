@@ -1,6 +1,7 @@
 //! Document 01 "Bench program": records in, a line for each out.
 
 use crate::device::numbers::{number_of, LABEL_AREA};
+use crate::device::sanitize::Untimed;
 use crate::device::{Config, Device};
 pub use crate::line::push_hex;
 use crate::line::Line;
@@ -75,7 +76,8 @@ impl Bench {
                 match self.device.run(*opcode, payload, *time, labels) {
                     // "for CM the length and lower-case hex (none if length 0)"
                     Ok(done) => {
-                        self.line.numbers([0, done.reply.len() as u128]);
+                        let length = done.reply.len() as u128;
+                        self.line.numbers([done.number.into(), length]);
                         if !done.reply.is_empty() {
                             self.line.hex(&done.reply);
                         }
@@ -102,13 +104,16 @@ impl Bench {
                     Err(refusal) => self.line.number(refusal.number()),
                 }
             }
-            Record::Line { address } => match self.device.line_test(*address) {
-                Ok(answer) => {
-                    let (answer, kind) = answer.numbers();
-                    self.line.numbers([0, answer.into(), kind.into()]);
+            Record::Line { address } => {
+                match self.device.line_test(*address) {
+                    Ok(answer) => {
+                        let (answer, kind) = answer.numbers();
+                        self.line.numbers([0, answer.into(), kind.into()]);
+                    }
+                    Err(refusal) => self.line.number(refusal.number()),
                 }
-                Err(refusal) => self.line.number(refusal.number()),
-            },
+                self.device.after_untimed(Untimed::Line);
+            }
         }
         self.line.end();
         going

@@ -1,6 +1,6 @@
 //! The two program formats: document 01's `bench` and document 10's `probe`.
 
-use crate::device::fault::{FaultLine, FAULTS, HOST_FAULTS, PROBE_FAULTS};
+use crate::device::fault::{sanitize, FaultLine, FAULTS, HOST_FAULTS, PROBE_FAULTS};
 use crate::device::Config;
 use crate::{bench, probe};
 use std::io::{self, BufRead, Write};
@@ -45,11 +45,13 @@ impl Format {
 
     /// The planted faults that this format can see.
     pub fn faults(self) -> Vec<&'static FaultLine> {
+        let both = FAULTS.iter().chain(sanitize::FAULTS);
         match self {
-            Format::Bench => FAULTS.iter().collect(),
+            Format::Bench => both.collect(),
             Format::Probe => {
-                let device = FAULTS.iter().chain(PROBE_FAULTS);
-                device.chain(HOST_FAULTS).collect()
+                let device = both.chain(PROBE_FAULTS).chain(sanitize::PROBE_FAULTS);
+                let host = sanitize::HOST_FAULTS.iter().chain(HOST_FAULTS);
+                device.chain(host).collect()
             }
         }
     }

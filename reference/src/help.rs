@@ -130,7 +130,7 @@ faults that the seeds find and M those that they do not.
 
   --program PATH     a path, or a path and arguments with blanks between them
   --format F         bench (so if not given) or probe
-  --seeds A..B       the seeds from A to B - 1 (0..362), or one seed: --seeds A
+  --seeds A..B       the seeds from A to B - 1 (0..444), or one seed: --seeds A
   --profile P        this profile for all seeds, not the one that a seed chooses
   --without-host     takes the records of the host's side (RQ, RP, RW, WK) out of the
                      streams, for a program over the device's library alone

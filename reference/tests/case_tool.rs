@@ -53,6 +53,7 @@ fn errors_name_file_line_and_what_was_expected() {
         ("command set-labels offset=0 reserved=000000", "case.txt:1: expected reserved= of 4 bytes"),
         ("command set-labels offset=0 data=0", "case.txt:1: expected bytes in hex, two digits each, not `0`"),
         ("command set-labels offset=0 data=00*2041", "case.txt:1: expected a payload of at most 2048 bytes (see `bytes`)"),
+        ("command sanitize length=0", "case.txt:1: expected no `length=` here"),
         ("bytes 0g", "case.txt:1: expected bytes in hex, two digits each, not `0g`"),
         ("repeat 2\nnew 1 0", "case.txt:1: expected `end` to this `repeat`"),
         ("new 1 0\nend", "case.txt:2: expected `repeat` before this `end`"),
@@ -98,6 +99,7 @@ fn errors_name_file_line_and_what_was_expected() {
         ("label-bytes offset=0 length=1 => data=0", "expected after `=>` data= with bytes in hex, not `0`"),
         ("request get-labels offset=0 length=1", "expected a command of document 01 (see `bytes`)"),
         ("request set-labels offset=0", "expected a command of document 01 (see `bytes`)"),
+        ("request sanitize", "expected a command of document 01 (see `bytes`)"),
         ("request", "expected one command name (see `bytes`)"),
         ("request opcode=0x0100", "expected one command name (see `bytes`)"),
         ("request identify time=0", "expected no `time=` here"),
@@ -462,6 +464,14 @@ fn every_probe_record_has_words_that_encode_to_it() {
             command(0x4103, 2048, 0, &[1, 0, 0, 0, 0, 0, 2]),
             "command time=7 room=2048 fill=00 set-labels raw=01000000000002",
         ),
+        (
+            command(0x4400, 2048, 0, &[]),
+            "command time=7 room=2048 fill=00 sanitize",
+        ),
+        (
+            command(0x4400, 2048, 0, &[9]),
+            "command time=7 room=2048 fill=00 sanitize raw=09",
+        ),
         (Record::LabelArea { size: 8192 }, "label-area size=8192"),
         (
             Record::LabelBytes {
@@ -670,6 +680,42 @@ fn answers_about_labels_are_stated_and_said_in_words() {
     }
 }
 
+/// The words of W-207: `sanitize`, `started`, `busy`, `media-disabled` and `disabled`.
+#[test]
+fn answers_about_sanitize_are_stated() {
+    let lines = "new 1 0 => success\n\
+        line address=0 => clean\n\
+        command time=5 sanitize => started length=0 code=1\n\
+        command time=6 sanitize => busy length=0 code=6\n\
+        command time=7 sanitize raw=00 => invalid-payload-length\n\
+        command time=7 opcode=0x4400 => busy\n\
+        command time=7 inject-poison address=0 => media-disabled code=7\n\
+        line address=0 => success disabled answer=3 type=0\n\
+        command time=4_000_000_005 opcode=0x4400 => started\n";
+    for (head, lines_of) in [
+        (
+            "",
+            reference::bench::lines_of as fn(&[u8], Config) -> Vec<u8>,
+        ),
+        ("program probe\n", reference::probe::lines_of),
+    ] {
+        let case = read(&format!("{head}{lines}"));
+        let output = String::from_utf8(lines_of(&case.stream(), Config::default())).unwrap();
+        let report = check(&case, &output);
+        let totals = (report.passed, report.failed);
+        assert_eq!(totals, (9, 0), "{:?}", report.lines);
+        // Started is neither success nor a refusal.
+        let wrong = lines.replace("started length=0", "success length=0");
+        let wrong = read(&format!("{head}{wrong}"));
+        assert_eq!(check(&wrong, &output).failed, 1);
+        let wrong = lines.replace("success disabled", "success clean");
+        let wrong = read(&format!("{head}{wrong}"));
+        assert_eq!(check(&wrong, &output).failed, 1);
+    }
+    let message = error("event log=0 fill=00 => disabled");
+    assert!(message.starts_with("case.txt:1: expected after `=>` one of "));
+}
+
 #[test]
 fn explanations_decode_replies() {
     let text = "new 1 0\n\
@@ -758,6 +804,16 @@ fn explanations_of_probe_lines() {
         ("line address=0", "LT 0 0 0", "clean"),
         ("line address=0", "LT 0 1 3", "damaged, type 3 (injected)"),
         ("line address=0", "LT 0 2 0", "unknown"),
+        ("line address=0", "LT 0 3 0", "disabled: a Sanitize runs"),
+        ("line address=0", "LT 0 3 2", "disabled, BUT type 2 (internal)"),
+        ("line address=0", "LT 0 4 0", "not a line of this record: LT 0 4 0"),
+        ("line address=1", "LT 2 3 0", "refused: invalid input (0002h), BUT disabled, type 0 (unknown source)"),
+        ("command room=0 sanitize", "CM 1 0 - 1 0", "started (0001h): sanitize, no reply, the buffer is empty"),
+        ("command room=0 sanitize", "CM 1 0 - 1 2", "started (0001h): sanitize, no reply, the buffer is empty; BUT RAISE VECTOR 2"),
+        ("command room=0 sanitize", "CM 0 0 - 1 0", "BUT SUCCESS, not started: sanitize, no reply, the buffer is empty"),
+        ("command room=0 identify", "CM 1 0 - 1 0", "BUT STARTED (0001h): identify, no reply, the buffer is empty"),
+        ("command room=0 sanitize", "CM 6 0 - 1 0", "refused: busy (0006h): length 0, the buffer is empty"),
+        ("command room=0 set-labels offset=0", "CM 7 0 - 1 0", "refused: media disabled (0007h): length 0, the buffer is empty"),
         ("line address=1", "LT 2 2 0", "refused: invalid input (0002h), unknown, type 0"),
         ("line address=1", "LT 2 0 0", "refused: invalid input (0002h), BUT clean, type 0 (unknown source)"),
         ("status", "ES 0 0 5", "no log waits; 0 logs waiting, the highest is 5 (none)"),
@@ -791,6 +847,7 @@ fn explanations_of_probe_lines() {
             "CM 0 8 0500000000000000 1 0",
         ),
         ("command inject-poison address=1", "CM 2 1 ff 1 0"),
+        ("command sanitize", "CM 1 1 ee 1 0"),
     ];
     assert_eq!(
         explained(&lines),
@@ -799,6 +856,8 @@ fn explanations_of_probe_lines() {
             "timestamp 5",
             "refused: invalid input (0002h): length 1, the other 2,047 bytes of the buffer still 0x00",
             "BYTES OF A REFUSED COMMAND: ff",
+            "started (0001h): sanitize, reply of 1 byte, the other 2,047 bytes of the buffer still 0x00",
+            "BYTES WITHOUT A REPLY: ee",
         ]
     );
 }

@@ -77,8 +77,8 @@ fn profiles_say_how_many_streams_they_have() {
     }
 }
 
-/// At least as many seeds for each as there were before W-205 and W-206 brought their
-/// profiles: 9 or 10 of bench, 6 or 7 of probe.
+/// At least as many seeds for each as there were before W-205, W-206 and W-207 brought their
+/// profiles: 10 or 11 of bench, 7 or 8 of probe.
 #[test]
 fn every_profile_has_its_seeds() {
     for (format, least) in [(Bench, 10), (Probe, 7)] {

@@ -332,7 +332,7 @@ fn supported_logs_and_effects() {
     let reply = device.answer(opcode::GET_SUPPORTED_LOGS, &[], 0).unwrap();
     assert_eq!(reply.len(), 28);
     assert_eq!(reply[..8], [1, 0, 0, 0, 0, 0, 0, 0]);
-    assert_eq!(reply[24..], [56, 0, 0, 0]);
+    assert_eq!(reply[24..], [60, 0, 0, 0]);
     let identifier = reply[8..24].to_vec();
     let mut get = |offset: u32, length: u32| {
         let mut payload = identifier.clone();
@@ -340,7 +340,7 @@ fn supported_logs_and_effects() {
         payload.extend(length.to_le_bytes());
         device.answer(opcode::GET_LOG, &payload, 0)
     };
-    let whole = get(0, 56).unwrap();
+    let whole = get(0, 60).unwrap();
     assert_eq!(whole[4..8], [0x01, 0x01, 0x10, 0x00]);
     assert_eq!(whole[12..16], [0x03, 0x01, 0x02, 0x00]);
     assert_eq!(whole[20..24], [0x01, 0x03, 0x08, 0x00]);
@@ -349,10 +349,14 @@ fn supported_logs_and_effects() {
         whole[36..44],
         [0x02, 0x41, 0x00, 0x00, 0x03, 0x41, 0x06, 0x00]
     );
-    assert_eq!(whole[52..], [0x02, 0x43, 0x00, 0x00]);
+    // 4400h after 4302h, "effect 64h" (W-207).
+    assert_eq!(
+        whole[52..],
+        [0x02, 0x43, 0x00, 0x00, 0x00, 0x44, 0x64, 0x00]
+    );
     assert_eq!(get(7, 30).unwrap(), whole[7..37]);
-    assert_eq!(get(56, 0), SUCCESS);
-    for (offset, length) in [(0, 57), (56, 1), (57, 0), (0, 2049), (u32::MAX, 57)] {
+    assert_eq!(get(60, 0), SUCCESS);
+    for (offset, length) in [(0, 61), (60, 1), (61, 0), (0, 2049), (u32::MAX, 61)] {
         assert_eq!(get(offset, length), Err(Refusal::InvalidInput));
     }
 }

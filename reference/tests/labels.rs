@@ -388,18 +388,19 @@ fn effects_log_and_identity() {
         (0x4300, 0),
         (0x4301, 0),
         (0x4302, 0),
+        (0x4400, 0x64),
     ]
     .iter()
     .flat_map(|(code, effect)| [code.to_le_bytes(), effect.to_le_bytes()].concat())
     .collect();
     let logs = device.answer(opcode::GET_SUPPORTED_LOGS, &[], 0).unwrap();
-    assert_eq!(logs[24..], [56, 0, 0, 0]);
+    assert_eq!(logs[24..], [60, 0, 0, 0]);
     let mut ask = |offset: u32, length: u32| {
         let fields = [offset.to_le_bytes(), length.to_le_bytes()].concat();
         device.answer(opcode::GET_LOG, &[&logs[8..24], &fields].concat(), 0)
     };
-    for offset in 0..=57u32 {
-        for length in 0..=57u32 {
+    for offset in 0..=61u32 {
+        for length in 0..=61u32 {
             let (from, to) = (offset as usize, (offset + length) as usize);
             let expected = whole.get(from..to).map(<[u8]>::to_vec);
             assert_eq!(ask(offset, length), expected.ok_or(Refusal::InvalidInput));
@@ -542,6 +543,16 @@ fn get_number(payload: &[u8]) -> u16 {
     }
 }
 
+/// The number with which a command on the labels is answered: "while disabled, 0007h", after
+/// the length check (W-207).
+fn while_disabled(disabled: bool, number: u16) -> u16 {
+    match number {
+        0x0016 => 0x0016,
+        _ if disabled => 0x0007,
+        number => number,
+    }
+}
+
 /// The rules over generated calls of both formats, with a paper area beside them: each Get
 /// gives the paper's bytes, each Set that is taken writes its data there, and the store is the
 /// paper after every record. With another size lent every command is 0100h.
@@ -570,6 +581,7 @@ fn it_holds_after_generated_calls() {
             let line = String::from_utf8_lossy(after.line.as_bytes()).to_string();
             let columns: Vec<&str> = line.trim_end().split(' ').collect();
             let lent = after.labels().lent().len();
+            let disabled = before.media_disabled();
             if matches!(record, Record::Command { .. }) && lent != SIZE {
                 assert_eq!(line, "CM 256 0 - 1 0\n", "{name}: {record:?}");
                 assert_eq!(after.device(), before);
@@ -577,7 +589,7 @@ fn it_holds_after_generated_calls() {
             }
             match rightly_lent(record, after) {
                 Some((GET, payload)) => {
-                    let number = get_number(payload);
+                    let number = while_disabled(disabled, get_number(payload));
                     assert_eq!(columns[1], number.to_string(), "{name}: {record:?}");
                     if number == 0 {
                         let from = usize::from(payload[0]) | usize::from(payload[1]) << 8;
@@ -596,7 +608,7 @@ fn it_holds_after_generated_calls() {
                     let offset = payload.get(..4).map_or(0, |bytes| {
                         u32::from_le_bytes(bytes.try_into().unwrap()).into()
                     });
-                    let number = set_number(offset, payload);
+                    let number = while_disabled(disabled, set_number(offset, payload));
                     let expected = format!("CM {number} 0 - 1 0\n");
                     assert_eq!(line, expected, "{name}: {record:?}");
                     if number == 0 {

@@ -13,8 +13,8 @@ fn device() -> Device {
     Device::make(1, 0, Config::default()).1
 }
 
-fn inject(device: &mut Device, address: u64) -> Result<Vec<u8>, Refusal> {
-    device.answer(opcode::INJECT_POISON, &address.to_le_bytes(), 0)
+fn inject(device: &mut Device, address: u64, time: u64) -> Result<Vec<u8>, Refusal> {
+    device.answer(opcode::INJECT_POISON, &address.to_le_bytes(), time)
 }
 
 fn clear(device: &mut Device, address: u64, time: u64) -> Result<Vec<u8>, Refusal> {
@@ -50,8 +50,8 @@ fn full_with_three() -> Device {
 fn p7_inject_with_256_entries() {
     let mut device = full_with_three();
     let before = device.clone();
-    assert_eq!(inject(&mut device, 192), Err(Refusal::InjectPoisonLimit));
-    assert_eq!(inject(&mut device, 64), SUCCESS);
+    assert_eq!(inject(&mut device, 192, 0), Err(Refusal::InjectPoisonLimit));
+    assert_eq!(inject(&mut device, 64, 0), SUCCESS);
     assert_eq!(device, before);
     assert_eq!(device.line_test(192), Ok(LineAnswer::Clean));
 }
@@ -81,7 +81,7 @@ fn p9_clear_first_with_256_entries() {
 #[test]
 fn p10_range_of_0_lines_at_the_end() {
     let mut device = device();
-    inject(&mut device, END - 64).unwrap();
+    inject(&mut device, END - 64, 0).unwrap();
     assert_eq!(list(&mut device, END, 0), Ok(vec![0; 32]));
     assert_eq!(list(&mut device, END - 64, 0), Ok(vec![0; 32]));
     let outside = Err(Refusal::InvalidPhysicalAddress);
@@ -152,7 +152,7 @@ fn other_refusals_unaligned_first() {
         (u64::MAX - 63, Refusal::InvalidPhysicalAddress),
     ] {
         assert_eq!(device.line_test(address), Err(refusal));
-        assert_eq!(inject(&mut device, address), Err(refusal));
+        assert_eq!(inject(&mut device, address, 0), Err(refusal));
         assert_eq!(clear(&mut device, address, 0), Err(refusal));
         assert_eq!(list(&mut device, address, 1), Err(refusal));
     }
@@ -257,46 +257,70 @@ impl Paper {
         let total = device.damage_total() as usize + self.dropped.len();
         assert_eq!(self.damaged.len(), total);
         assert_eq!(device.poison_list().overflow().is_some(), self.ever_dropped);
+        // Clean for no line in the set, also while media is disabled; the last part of demand
+        // 3 "reads "while the flag is clear and media is enabled"" (W-207).
+        let disabled = device.media_disabled();
         for line in 0..900 {
             let answer = device.line_test(line * 64).unwrap();
             let damaged = self.damaged.contains(&line);
             assert!(!(damaged && answer == LineAnswer::Clean));
-            assert!(damaged || self.ever_dropped || answer == LineAnswer::Clean);
+            assert!(damaged || self.ever_dropped || disabled || answer == LineAnswer::Clean);
+            assert_eq!(answer == LineAnswer::Disabled, disabled);
         }
     }
+}
+
+/// One list of random calls, with the paper beside it. The paper is touched neither by 0001h
+/// nor by the end of a work (W-207), both of which come where `sanitizes` is set.
+fn random_list(seed: u64, sanitizes: bool) -> usize {
+    let mut random = Random::new(seed);
+    let (mut device, mut paper) = (device(), Paper::default());
+    // Some lists grow long entries, some many short ones.
+    let longest = random.pick(&[2, 5, 30]);
+    let (mut time, mut disabled) = (0, 0);
+    for step in 0..2500 {
+        let line = random.below(900);
+        time += random.below(200_000_000);
+        // A clock that goes back.
+        let time = time - random.pick(&[0, 0, 0, time / 2, time]);
+        match random.below(6) {
+            _ if sanitizes && random.one_in(60) => {
+                let _ = device.answer(opcode::SANITIZE, &[], time);
+            }
+            _ if sanitizes && random.one_in(60) => {
+                let _ = device.event_report(random.below(6) as u8, &[0; 128], time);
+            }
+            0 | 1 => {
+                let lines = random.between(1, longest);
+                let kind = random.pick(&[0, 1, 2, 7, 3]);
+                if device.media_report(line * 64, lines, kind, time).is_ok() {
+                    paper.report(line, lines);
+                }
+            }
+            2 | 3 => {
+                if inject(&mut device, line * 64, time).is_ok() {
+                    paper.inject(line);
+                }
+            }
+            _ => {
+                if clear(&mut device, line * 64, time).is_ok() {
+                    paper.clear(line);
+                }
+            }
+        }
+        if step % 250 == 249 {
+            paper.agrees(&device);
+            disabled += usize::from(device.media_disabled());
+        }
+    }
+    disabled
 }
 
 #[test]
 fn demand_3_on_random_lists_of_calls() {
     for seed in 0..40 {
-        let mut random = Random::new(seed);
-        let (mut device, mut paper) = (device(), Paper::default());
-        // Some lists grow long entries, some many short ones.
-        let longest = random.pick(&[2, 5, 30]);
-        for step in 0..2500 {
-            let line = random.below(900);
-            match random.below(6) {
-                0 | 1 => {
-                    let lines = random.between(1, longest);
-                    let kind = random.pick(&[0, 1, 2, 7, 3]);
-                    if device.media_report(line * 64, lines, kind, step).is_ok() {
-                        paper.report(line, lines);
-                    }
-                }
-                2 | 3 => {
-                    if inject(&mut device, line * 64).is_ok() {
-                        paper.inject(line);
-                    }
-                }
-                _ => {
-                    if clear(&mut device, line * 64, step).is_ok() {
-                        paper.clear(line);
-                    }
-                }
-            }
-            if step % 500 == 499 {
-                paper.agrees(&device);
-            }
-        }
+        assert_eq!(random_list(seed, false), 0);
     }
+    let disabled: usize = (0..40).map(|seed| random_list(seed, true)).sum();
+    assert!((100..300).contains(&disabled), "{disabled} of 400 looks");
 }

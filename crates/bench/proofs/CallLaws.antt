@@ -5,7 +5,7 @@ use mathlib.Core.List.{List, [], _∷_}
 use Prim.Native.Nat.{ℕ, _+_, _-_}
 use lib.ListN.{length, take, drop}
 use lib.Seq.{take-at}
-use Rattle.wire.specs.Wire.{splice}
+use Rattle.wire.specs.Wire.{field, splice}
 use Rattle.mailbox.specs.declared.device.Device.{Device}
 use Rattle.mailbox.specs.declared.device.Made.{Made}
 use Rattle.mailbox.specs.declared.device.Answer.{Answer}
@@ -13,9 +13,10 @@ use Rattle.mailbox.specs.declared.device_calls.EventAnswer.{EventAnswer}
 use Rattle.mailbox.specs.declared.device_calls.MediaAnswer.{MediaAnswer}
 use Rattle.mailbox.specs.declared.device_calls.LineAnswer.{LineAnswer}
 use Rattle.mailbox.specs.State.{DeviceState, ValidDevice, state-of}
+use Rattle.mailbox.specs.Ending.{AfterEnding}
+use Rattle.mailbox.specs.LineStatus.{status-number, status-type}
 use Rattle.mailbox.specs.Outcome.{Outcome}
 use Rattle.mailbox.specs.Contracts.{Answered, Makes, EventDone, MediaDone, LineDone}
-use Rattle.poison.specs.LineTest.{answer-number, answer-type}
 use Rattle.protocol.specs.declared.calls.Served.{Served}
 use Rattle.protocol.specs.Text.{numbers-line}
 use Rattle.protocol.specs.Records.{mark-of, NW, CM, EV, MD, LT}
@@ -35,37 +36,42 @@ reply-read {o} {before = before} told =
 
 -- each record served
 pub command-served : (bytes area : List ℕ) {d : Device} {a : Answer} {area' held reply before after : List ℕ} {used e : ℕ}
-    → Answered (command-call (kept-of d area) bytes) d a held reply → area' ≡ area-left (kept-of d area) bytes (a .code)
+    → AfterEnding d (field bytes 2 8) (λ (f : Device). Answered (command-call (kept-of d area) bytes) f a held reply) → area' ≡ area-left (kept-of d area) bytes (a .code)
     → PutsLine used (command-line (a .code) (take (a .length) reply)) before after e
     → Leaves (serve-command (kept-of d area) bytes) used (record { used = e; device = a .device }) area' before after
 unfolding serve-command
-command-served bytes area {d} told left put =
+command-served bytes area {d} call left put =
+    let told = call .done in
     record {
       line = puts-line-as put (ap₂ command-line (told .code) (reply-read told));
       next = λ i. record { device = told .next i; area = (left ∙ ap (area-left (kept-of d area) bytes) (told .code)) i };
       valid = told .valid;
     }
 
-pub event-served : (bytes : List ℕ) {d : Device} {a : EventAnswer} {before after : List ℕ} {used e : ℕ} → EventDone (event-call (state-of d) bytes) d a
+pub event-served : (bytes : List ℕ) {d : Device} {a : EventAnswer} {before after : List ℕ} {used e : ℕ}
+    → AfterEnding d (field bytes 2 8) (λ (f : Device). EventDone (event-call (state-of d) bytes) f a)
     → PutsLine used (told-line EV (a .code) (cond (a .stored) 1 0 ∷ [])) before after e
     → Serves (serve-event (state-of d) bytes) used (record { used = e; device = a .device }) before after
 unfolding serve-event
-event-served bytes told put =
+event-served bytes call put =
+    let told = call .done in
     record {
       line = puts-line-as put (ap₂ (λ (c : ℕ) (b : Bool). told-line EV c (cond b 1 0 ∷ [])) (told .code) (told .stored));
       next = told .next;
       valid = told .valid;
     }
 
-pub media-served : (bytes : List ℕ) {d : Device} {a : MediaAnswer} {before after : List ℕ} {used e : ℕ} → MediaDone (media-call (state-of d) bytes) d a
+pub media-served : (bytes : List ℕ) {d : Device} {a : MediaAnswer} {before after : List ℕ} {used e : ℕ}
+    → AfterEnding d (field bytes 2 8) (λ (f : Device). MediaDone (media-call (state-of d) bytes) f a)
     → PutsLine used (told-line MD (a .code) (a .stored ∷ a .dropped ∷ [])) before after e
     → Serves (serve-media (state-of d) bytes) used (record { used = e; device = a .device }) before after
 unfolding serve-media
-media-served bytes told put =
+media-served bytes call put =
+    let told = call .done in
     record { line = puts-line-as put (λ i. told-line MD (told .code i) (told .stored i ∷ told .dropped i ∷ [])); next = told .next; valid = told .valid }
 
 pub line-served : (bytes : List ℕ) (d : Device) {a : LineAnswer} {before after : List ℕ} {used e x y : ℕ} → LineDone (line-call (state-of d) bytes) a
-    → x ≡ answer-number (a .answer) → y ≡ answer-type (a .answer) → PutsLine used (told-line LT (a .code) (x ∷ y ∷ [])) before after e
+    → x ≡ status-number (a .answer) → y ≡ status-type (a .answer) → PutsLine used (told-line LT (a .code) (x ∷ y ∷ [])) before after e
     → PutsLine used (serve-line (state-of d) bytes .line) before after e
 unfolding serve-line
 line-served bytes d told ex ey put = puts-line-as put (λ i. told-line LT (told .code i) ((ex ∙ told .number) i ∷ (ey ∙ told .kind) i ∷ []))

@@ -5,7 +5,7 @@ use crate::lines;
 use mailbox::device::Answer;
 use mailbox::device::Device;
 use mailbox::device_calls::EventAnswer;
-use poison::line_test;
+use mailbox::line_status;
 use protocol::calls;
 use protocol::calls::Served;
 use protocol::formats;
@@ -17,7 +17,10 @@ use protocol::stream::Stream;
 ghost use mathlib.Core.Path.{_≡_};
 ghost use Prim.Native.Nat.{_+_, _≤_, _<_};
 ghost use lib.ListN.{length};
+ghost use Rattle.wire.specs.Wire.{field};
+ghost use Rattle.mailbox.specs.declared.device.Device.{Device};
 ghost use Rattle.mailbox.specs.State.{ValidDevice, state-of};
+ghost use Rattle.mailbox.specs.Ending.{AfterEnding};
 ghost use Rattle.mailbox.specs.Contracts.{Answered, EventDone};
 ghost use Rattle.labels.specs.Labels.{zero-area};
 ghost use Rattle.protocol.specs.Stream.{Fits};
@@ -38,7 +41,7 @@ pub struct Begun {
 // CM (time 8, opcode 2, length 2, payload): the call.
 fn call_command(device: Device, bytes: &[u8], area: &mut [u8], reply: &mut [u8]) -> Answer
     requires { ⌜ ValidDevice device × (14 ≤ length (now bytes)) × (length (now reply) ≡ 2048) ⌝ }
-    ensures { λ r. ⌜ Answered (command-call (kept-of device (now (area .entry))) (now (bytes .entry))) device r (now (reply .entry)) (now (reply .exit)) × (now (area .exit) ≡ area-left (kept-of device (now (area .entry))) (now (bytes .entry)) (r .code)) ⌝ }
+    ensures { λ r. ⌜ AfterEnding device (field (now (bytes .entry)) 2 8) (λ (e : Device). Answered (command-call (kept-of device (now (area .entry))) (now (bytes .entry))) e r (now (reply .entry)) (now (reply .exit))) × (now (area .exit) ≡ area-left (kept-of device (now (area .entry))) (now (bytes .entry)) (r .code)) ⌝ }
 {
     let time = wire::get(bytes, 2, 8);
     let opcode = wire::get(bytes, 10, 2) as u16;
@@ -48,7 +51,7 @@ fn call_command(device: Device, bytes: &[u8], area: &mut [u8], reply: &mut [u8])
 // EV (time 8, log 1, record 128): the call.
 fn call_event(device: Device, bytes: &[u8]) -> EventAnswer
     requires { ⌜ ValidDevice device × (139 ≤ length (now bytes)) ⌝ }
-    ensures { λ r. ⌜ EventDone (event-call (state-of device) (now (bytes .entry))) device r ⌝ }
+    ensures { λ r. ⌜ AfterEnding device (field (now (bytes .entry)) 2 8) (λ (e : Device). EventDone (event-call (state-of device) (now (bytes .entry))) e r) ⌝ }
 {
     let time = wire::get(bytes, 2, 8);
     device.event_report(time, bytes[10], &bytes[11..139])
@@ -101,8 +104,8 @@ fn line(device: Device, bytes: &[u8], out: &mut [u8], used: usize) -> usize
     let told = calls::line(device, bytes);
     let answer = told.answer;
     let code = told.code as u64;
-    let number = line_test::answer_number(answer);
-    let kind = line_test::answer_kind(answer);
+    let number = line_status::status_number(answer);
+    let kind = line_status::status_type(answer);
     let numbers = [code, number, kind];
     lines::put_told(out, used, b'L', b'T', &numbers)
 }

@@ -3,13 +3,14 @@ use mathlib.Core.Path.{_≡_, refl, sym, ap, ap₂, _∙_}
 use mathlib.Core.Bool.{Bool, true, false, _||_}
 use Prim.Native.Nat.{ℕ, _≤_, _<_}
 use native.Mathlib.Omega.{arith}
+use native.Mathlib.Decide.{ℕ-discrete}
 use lib.Dec.{leb, eqb}
-use borrow.Author.Tests.{le-leb, lt-leb, leb-true, eqb-true, ne-eqb}
+use borrow.Author.Tests.{le-leb, lt-leb, leb-true, eqb-true, ne-eqb, eq-eqb}
 use Rattle.labels.specs.Labels.{label-size}
 use Rattle.wire.specs.Returns.{unsupported, invalid-length, small-buffer, need}
 use Rattle.commands.specs.Numbers.{mailbox-size}
 use Rattle.wire.proofs.Laws.{need-fails, need-holds, need-zero}
-use Rattle.commands.specs.Commands.{commands, known, fits, admission}
+use Rattle.commands.specs.Commands.{commands, known, fits, admission, while-disabled, blocked, first-code}
 
 -- the checks of the area and the others, of which the first that refuses decides
 pub admission-first : (op n size room : ℕ) {lent others code : ℕ} → lent ≡ need (eqb size label-size) small-buffer 0 → others ≡ admission op n label-size room
@@ -70,6 +71,63 @@ module _ (op n room : ℕ) where
         let past-length = need-zero (leb n mailbox-size) invalid-length _ (omega arith) (past-room .1) in
         let past-known = need-zero (known commands op) unsupported _ (omega arith) (past-length .1) in
         ap (λ (x : ℕ). fits commands x n) (sym e) ∙ need-zero (fits commands op n) invalid-length 0 (omega arith) (past-known .1) .0
+
+-- ---- with media disabled or not (document 02, W-207)
+module _ (disabled : Bool) (op n size room : ℕ) where
+  -- the checks of document 01's order and that of media, of which the first that refuses decides
+  pub first-code-by : {admitted allowed code : ℕ} → admitted ≡ admission op n size room → allowed ≡ blocked disabled op → code ≡ need (eqb admitted 0) admitted allowed
+      → code ≡ first-code disabled op n size room
+  unfolding first-code
+  first-code-by ea eb e = e ∙ ap₂ (λ (x y : ℕ). need (eqb x 0) x y) ea eb
+
+  -- where neither refuses
+  pub first-zero : first-code disabled op n size room ≡ 0 → (admission op n size room ≡ 0) × (blocked disabled op ≡ 0)
+  unfolding first-code
+  first-zero z = go (ℕ-discrete (admission op n size room) 0)
+    where
+      go : Dec (admission op n size room ≡ 0) → (admission op n size room ≡ 0) × (blocked disabled op ≡ 0)
+      go (yes e) = (e, need-holds _ _ (eq-eqb _ _ e) ∙ z)
+      go (no f) = absurd (f (need-fails _ _ (ne-eqb _ _ f) ∙ z))
+
+  -- what is refused before media is looked at
+  pub first-refused : (admission op n size room ≡ 0 → ⊥) → admission op n size room ≡ first-code disabled op n size room
+  unfolding first-code
+  first-refused f = need-fails _ _ (ne-eqb _ _ f)
+
+  -- where document 01's order refuses nothing, media decides
+  pub first-admitted : admission op n size room ≡ 0 → blocked disabled op ≡ first-code disabled op n size room
+  unfolding first-code
+  first-admitted e = need-holds _ _ (eq-eqb _ _ e)
+
+  -- a command that media disabled allows
+  pub first-allowed : while-disabled op ≡ 0 → admission op n size room ≡ first-code disabled op n size room
+  first-allowed free = go (ℕ-discrete (admission op n size room) 0)
+    where
+      none : (b : Bool) → 0 ≡ blocked b op
+      none true = sym free
+      none false = refl
+
+      go : Dec (admission op n size room ≡ 0) → admission op n size room ≡ first-code disabled op n size room
+      go (yes e) = e ∙ none disabled ∙ first-admitted e
+      go (no f) = first-refused f
+
+-- the area's size before the other checks of a command, media's among them
+pub first-area : (disabled : Bool) (op n size room : ℕ) {lent others code : ℕ} → lent ≡ need (eqb size label-size) small-buffer 0 → others ≡ first-code disabled op n label-size room
+    → code ≡ need (eqb lent 0) lent others → code ≡ first-code disabled op n size room
+unfolding first-code admission
+first-area disabled op n size room {lent} {others} el eo e = e ∙ ap₂ (λ (x y : ℕ). need (eqb x 0) x y) el eo ∙ go (eqb size label-size)
+  where
+    go : (b : Bool) → need (eqb (need b small-buffer 0) 0) (need b small-buffer 0) (first-code disabled op n label-size room)
+        ≡ need (eqb (need b small-buffer (admission op n label-size room)) 0) (need b small-buffer (admission op n label-size room)) (blocked disabled op)
+    go true = refl
+    go false = refl
+
+-- where none refuses, the area has 4,096 bytes, and the others refuse nothing
+pub first-sized : (disabled : Bool) (op n size room : ℕ) → first-code disabled op n size room ≡ 0 → (size ≡ label-size) × (first-code disabled op n label-size room ≡ 0)
+first-sized disabled op n size room z =
+    let passed = first-zero disabled op n size room z in
+    let sized = admitted-area op n size room (passed .0) in
+    (sized .0, sym (first-admitted disabled op n label-size room (sized .1)) ∙ passed .1)
 
 four-five-by : (n : ℕ) (a b : Bool) → (a ≡ true → n ≡ 4) → (b ≡ true → n ≡ 5) → (a || b) ≡ true → (4 ≤ n) × (n ≤ 5)
 four-five-by n true b f g e = let h = f refl in (omega arith, omega arith)

@@ -17,7 +17,7 @@ use Rattle.commands.proofs.Replies.{field-more}
 -- the bytes of the source's tables
 abbrev pub effects-bytes : List ℕ
 effects-bytes =
-    0 ∷ 1 ∷ 0 ∷ 0 ∷ 1 ∷ 1 ∷ 16 ∷ 0 ∷ 2 ∷ 1 ∷ 0 ∷ 0 ∷ 3 ∷ 1 ∷ 2 ∷ 0 ∷ 0 ∷ 3 ∷ 0 ∷ 0 ∷ 1 ∷ 3 ∷ 8 ∷ 0 ∷ 0 ∷ 4 ∷ 0 ∷ 0 ∷ 1 ∷ 4 ∷ 0 ∷ 0 ∷ 0 ∷ 64 ∷ 0 ∷ 0 ∷ 2 ∷ 65 ∷ 0 ∷ 0 ∷ 3 ∷ 65 ∷ 6 ∷ 0 ∷ 0 ∷ 67 ∷ 0 ∷ 0 ∷ 1 ∷ 67 ∷ 0 ∷ 0 ∷ 2 ∷ 67 ∷ 0 ∷ 0 ∷ []
+    0 ∷ 1 ∷ 0 ∷ 0 ∷ 1 ∷ 1 ∷ 16 ∷ 0 ∷ 2 ∷ 1 ∷ 0 ∷ 0 ∷ 3 ∷ 1 ∷ 2 ∷ 0 ∷ 0 ∷ 3 ∷ 0 ∷ 0 ∷ 1 ∷ 3 ∷ 8 ∷ 0 ∷ 0 ∷ 4 ∷ 0 ∷ 0 ∷ 1 ∷ 4 ∷ 0 ∷ 0 ∷ 0 ∷ 64 ∷ 0 ∷ 0 ∷ 2 ∷ 65 ∷ 0 ∷ 0 ∷ 3 ∷ 65 ∷ 6 ∷ 0 ∷ 0 ∷ 67 ∷ 0 ∷ 0 ∷ 1 ∷ 67 ∷ 0 ∷ 0 ∷ 2 ∷ 67 ∷ 0 ∷ 0 ∷ 0 ∷ 68 ∷ 100 ∷ 0 ∷ []
 
 abbrev pub id-bytes : List ℕ
 id-bytes = 13 ∷ 169 ∷ 192 ∷ 181 ∷ 191 ∷ 65 ∷ 75 ∷ 120 ∷ 143 ∷ 121 ∷ 150 ∷ 177 ∷ 98 ∷ 59 ∷ 63 ∷ 23 ∷ []
@@ -27,7 +27,7 @@ pub effects-are : effects-bytes ≡ effects-log
 unfolding effects-log commands le
 effects-are = refl
 
--- It has 56 bytes.
+-- It has 60 bytes.
 pub effects-size : length effects-log ≡ effects-log-size
 unfolding effects-log commands le
 effects-size = refl
@@ -57,7 +57,7 @@ pub supported-written : (xs : List ℕ) → 28 ≤ length xs
     → splice 24 (le 4 effects-log-size) (splice 8 (part 0 16 id-bytes) (splice 2 (le 6 0) (splice 0 (le 2 1) xs))) ≡ splice 0 (get-supported-logs .bytes) xs
 unfolding get-supported-logs effects-log-id part le
 supported-written xs h =
-    field-more 24 _ (le 4 56) xs _ refl (omega arith)
+    field-more 24 _ (le 4 60) xs _ refl (omega arith)
     (field-more 8 _ id-bytes xs _ refl (omega arith)
     (field-more 2 (le 2 1) (le 6 0) xs _ refl (omega arith) refl))
 

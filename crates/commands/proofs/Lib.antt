@@ -4,6 +4,7 @@ pub mod AdmissionLaws
 pub mod EffectsLaws
 pub mod IdentityLaws
 pub mod PolicyLaws
+pub mod MediaLaws
 pub mod Headers
 pub mod Addresses
 pub mod VectorLaws

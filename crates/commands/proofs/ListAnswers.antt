@@ -15,7 +15,7 @@ use Rattle.poison.specs.Range.{sharing, records-bytes, Wrote}
 use Rattle.poison.specs.declared.list.PoisonList.{PoisonList}
 use Rattle.poison.proofs.Laws.{valid-more, slots-more, length-records, adds-taken}
 use Rattle.wire.specs.declared.done.Done.{Done}
-use Rattle.wire.specs.Returns.{success, inject-limit, need}
+use Rattle.wire.specs.Returns.{success, inject-limit, need, Refused}
 use Rattle.commands.specs.Numbers.{unit-lines, most-units, mailbox-size, poison-records}
 use Rattle.commands.specs.Reply.{replied, no-reply}
 use Rattle.commands.specs.PoisonCommands.{ListChange, line-of, line-code, range-code, inject-poison, inject-adds, clear-poison, list-header, list-reply, get-poison-list}
@@ -26,7 +26,7 @@ use Rattle.commands.proofs.Addresses.{line-inside}
 
 -- a command that changes the list, by its number and the list that follows
 pub list-done : {o : ListChange} {s : PoisonState} {lines code : ℕ} {l r : PoisonList} → o ≡ record { code = code; list = s } → state-of r ≡ s
-    → ((code ≡ 0 → ⊥) → r ≡ l) → ValidList lines r → ListDone o lines l code r
+    → (Refused code → r ≡ l) → ValidList lines r → ListDone o lines l code r
 list-done {o} {s} {lines} {code} {l} {r} e n f v =
     subst (λ (x : ListChange). ListDone x lines l code r) (sym e) (record { code = refl; list = n; refused = f; valid = v })
 
@@ -145,14 +145,14 @@ module _ (lines : ℕ) (l : PoisonList) (p : List ℕ) (address : ℕ) (e : addr
           either c d = here .state ∙ ap (λ (x : Bool). cond x (after-inject (state-of l) (line-of (field p 0 8))) (state-of l)) d
 
           go : (c : Bool) → Injects l (line-of (field p 0 8)) c more r → ListDone (inject-poison lines (state-of l) p) lines l (need c inject-limit 0) r
-          go true i = list-done (inject-taken lines (state-of l) p at-field (sym (i .done))) (either true (sym (i .done))) (λ f. absurd (f refl)) (i .valid lines v below)
+          go true i = list-done (inject-taken lines (state-of l) p at-field (sym (i .done))) (either true (sym (i .done))) (λ f. absurd (f .not-success refl)) (i .valid lines v below)
           go false i = list-done (inject-full lines (state-of l) p at-field (sym (i .done))) (either false (sym (i .done))) (λ f. i .refused refl) (i .valid lines v below)
 
       pub clear-success : (time : ℕ) (r : PoisonList) → Clears l (line-of address) time r
           → ListDone (clear-poison lines (state-of l) p time) lines l success r
       clear-success time r a =
           let here = subst (λ (x : ℕ). Clears l (line-of x) time r) e a in
-          list-done (clear-taken lines (state-of l) p at-field time) (here .state) (λ f. absurd (f refl)) (here .valid lines v)
+          list-done (clear-taken lines (state-of l) p at-field time) (here .state) (λ f. absurd (f .not-success refl)) (here .valid lines v)
 
   module _ (n : ℕ) (m : n ≡ field p 8 8) where
     range-at : range-code lines address n ≡ range-code lines (field p 0 8) (field p 8 8)

@@ -1,11 +1,11 @@
--- The commands as one table (document 01, "What the device does", "Return numbers", "Logs and identity"; document 02, W-206): it gives the known opcodes, the payload
+-- The commands as one table (document 01, "What the device does", "Return numbers", "Logs and identity"; document 02, W-206, W-207): it gives the known opcodes, the payload
 -- lengths and the Command Effects Log. And the checks before a command's own. Assumes nothing.
 use Prim.Native.Nat.{ℕ}
 use mathlib.Core.Bool.{Bool, false, _||_, cond}
 use mathlib.Core.List.{List, [], _∷_}
 use lib.Dec.{leb, eqb}
 use Rattle.labels.specs.Labels.{label-size}
-use Rattle.wire.specs.Returns.{unsupported, invalid-length, small-buffer, need, success}
+use Rattle.wire.specs.Returns.{unsupported, invalid-length, small-buffer, busy, media-disabled, need, success}
 use Rattle.commands.specs.Numbers.{mailbox-size}
 
 -- a command: its opcode, its effect, and the payload lengths that it takes
@@ -37,6 +37,7 @@ commands =
     ∷ command 0x4300 0 (exactly 16)
     ∷ command 0x4301 0 (exactly 8)
     ∷ command 0x4302 0 (exactly 72)
+    ∷ command 0x4400 0x64 (exactly 0)
     ∷ []
 
 -- whether some command has the opcode
@@ -61,3 +62,19 @@ admission op n size room =
     (need (known commands op) unsupported
     (need (fits commands op n) invalid-length
     success))))
+
+-- "Refusals, after the length check: Sanitize while one runs, 0006h; Inject, Clear Poison, Get LSA and Set LSA while disabled, 0007h" (document 02, W-207): the number that a command gets while
+-- media is disabled, 0 where it works as ever
+unfoldable pub while-disabled : ℕ → ℕ
+while-disabled op =
+    cond (eqb op 0x4400) busy
+    (cond (eqb op 0x4301 || (eqb op 0x4302 || (eqb op 0x4102 || eqb op 0x4103))) media-disabled
+    success)
+
+-- the number that such a command gets, where media is disabled or not
+abbrev pub blocked : Bool → ℕ → ℕ
+blocked disabled op = cond disabled (while-disabled op) success
+
+-- the number given before a command's own checks, 0 where there is none: the order of document 01, then media
+unfoldable pub first-code : Bool → ℕ → ℕ → ℕ → ℕ → ℕ
+first-code disabled op n size room = need (eqb (admission op n size room) success) (admission op n size room) (blocked disabled op)

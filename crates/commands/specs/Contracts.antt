@@ -4,7 +4,7 @@ use Prim.Native.Nat.{ℕ}
 use mathlib.Core.Path.{_≡_}
 use mathlib.Core.Bool.{Bool}
 use mathlib.Core.List.{List}
-use Rattle.wire.specs.Returns.{success}
+use Rattle.wire.specs.Returns.{Refused}
 use Rattle.poison.specs.State as P
 use Rattle.poison.specs.declared.list.PoisonList.{PoisonList}
 use Rattle.commands.specs.declared.policy.PolicySet.{PolicySet}
@@ -22,7 +22,7 @@ pub record PolicyDone (o : PolicyChange) (r : PolicySet) : Type 0 where
 pub record ListDone (o : ListChange) (lines : ℕ) (l : PoisonList) (c : ℕ) (r : PoisonList) : Type 0 where
   pub code : c ≡ o .code
   pub list : P.state-of r ≡ o .list
-  pub refused : (c ≡ success → ⊥) → r ≡ l
+  pub refused : Refused c → r ≡ l
   pub valid : P.ValidList lines r
 
 -- Inject Poison in the list: the same, and whether it added an entry (a)

@@ -18,9 +18,9 @@ unfoldable pub effects-log : List ℕ
 unfolding commands
 effects-log = effects commands
 
--- its size: 56 bytes (`effects-size` shows that it is the length of the log)
+-- its size: 60 bytes (`effects-size` shows that it is the length of the log)
 abbrev pub effects-log-size : ℕ
-effects-log-size = 56
+effects-log-size = 60
 
 -- "0da9c0b5-bf41-4b78-8f79-96b1623b3f17, bytes as printed"
 unfoldable pub effects-log-id : List ℕ

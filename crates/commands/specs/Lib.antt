@@ -4,6 +4,7 @@ pub mod Reply
 pub mod Vector
 pub mod Commands
 pub mod Clock
+pub mod Media
 pub mod Policy
 pub mod EffectsLog
 pub mod Identity

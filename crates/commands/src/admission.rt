@@ -54,6 +54,7 @@ pub fn admitted(opcode: u16, length: usize, room: usize) -> u16
         0x4300 => exactly(length, 16),
         0x4301 => exactly(length, 8),
         0x4302 => exactly(length, 72),
+        0x4400 => exactly(length, 0),
         _ => returns::UNSUPPORTED,
     }
 }

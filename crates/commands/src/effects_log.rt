@@ -8,7 +8,7 @@ ghost use Rattle.commands.specs.EffectsLog.{get-supported-logs, get-log}
 ghost use Rattle.commands.specs.Contracts.{Replied};
 
 // Opcode and effect of each command, two bytes each.
-const EFFECTS: [u8; 56] = [
+const EFFECTS: [u8; 60] = [
     0x00,
     0x01,
     0x00,
@@ -65,6 +65,10 @@ const EFFECTS: [u8; 56] = [
     0x43,
     0x00,
     0x00,
+    0x00,
+    0x44,
+    0x64,
+    0x00,
 ];
 
 // 0da9c0b5-bf41-4b78-8f79-96b1623b3f17
@@ -95,7 +99,7 @@ pub fn get_supported_logs(reply: &mut [u8]) -> Done
     wire::put(reply, 0, 2, 1);
     wire::put(reply, 2, 6, 0);
     wire::copy(&IDENTIFIER, 0, 16, reply, 8);
-    wire::put(reply, 24, 4, 56);
+    wire::put(reply, 24, 4, 60);
     Done {
         code: returns::SUCCESS,
         length: 28,
@@ -121,7 +125,7 @@ pub fn get_log(payload: &[u8], reply: &mut [u8]) -> Done
             length: 0,
         };
     }
-    if 56 < offset + size {
+    if 60 < offset + size {
         return Done {
             code: returns::INVALID_INPUT,
             length: 0,

@@ -5,6 +5,7 @@ pub mod admission;
 pub mod clock;
 pub mod effects_log;
 pub mod identity;
+pub mod media;
 pub mod poison_commands;
 pub mod policy;
 pub mod vector;

@@ -8,6 +8,7 @@ use Rattle.events.proofs.log.Record.Laws as Record
 use Rattle.events.proofs.log.Log.Laws as Log
 use Rattle.events.proofs.status.Status.Laws as Status
 use Rattle.commands.proofs.clock.Clock.Laws as Clock
+use Rattle.commands.proofs.media.MediaState.Laws as MediaState
 use Rattle.mailbox.proofs.device.Device.Laws as Device
 use Rattle.embed.specs.Left.{device-size}
 use Rattle.embed.proofs.Done.Laws as Done
@@ -40,6 +41,9 @@ device-logs-at = refl
 pub device-poison-at : fieldOf Device.mir 5 ≡ some (PoisonList.mir, 5320)
 device-poison-at = refl
 
+pub device-media-at : fieldOf Device.mir 6 ≡ some (MediaState.mir, 7648)
+device-media-at = refl
+
 -- ---- its parts
 pub clock-size : size Clock.mir ≡ 24
 clock-size = refl
@@ -55,6 +59,21 @@ clock-value-at = refl
 
 pub clock-since-at : fieldOf Clock.mir 2 ≡ some (tyInt w64, 16)
 clock-since-at = refl
+
+pub media-state-size : size MediaState.mir ≡ 24
+media-state-size = refl
+
+pub media-state-align : align MediaState.mir ≡ 8
+media-state-align = refl
+
+pub media-state-disabled-at : fieldOf MediaState.mir 0 ≡ some (tyBool, 0)
+media-state-disabled-at = refl
+
+pub media-state-since-at : fieldOf MediaState.mir 1 ≡ some (tyInt w64, 8)
+media-state-since-at = refl
+
+pub media-state-lasts-at : fieldOf MediaState.mir 2 ≡ some (tyInt w64, 16)
+media-state-lasts-at = refl
 
 pub log-size : size Log.mir ≡ 1056
 log-size = refl

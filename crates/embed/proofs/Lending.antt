@@ -86,6 +86,7 @@ with-slots d starts lengths kinds =
       policy = d .policy;
       logs = d .logs;
       poison = list-of starts lengths kinds (d .poison .count) (d .poison .overflow) (d .poison .«overflow_time»);
+      media = d .media;
     }
 
 module _ (d : Device) (was : Held d) where
@@ -106,7 +107,7 @@ module _ (d : Device) (was : Held d) where
       let owed = LL.owed DeviceT.the-type DeviceL.the-laws d _ was in
       let rest = LL.owed PoisonListT.the-type PoisonListL.the-laws (d .poison) _ list-held .1 .1 .1 in
       let list = LL.owes PoisonListT.the-type PoisonListL.the-laws (with-slots d starts lengths kinds .poison) (s, (l, (k, rest))) in
-      LL.owes DeviceT.the-type DeviceL.the-laws (with-slots d starts lengths kinds) (owed .0, (owed .1 .0, (owed .1 .1 .0, (owed .1 .1 .1 .0, (owed .1 .1 .1 .1 .0, (list, tt))))))
+      LL.owes DeviceT.the-type DeviceL.the-laws (with-slots d starts lengths kinds) (owed .0, (owed .1 .0, (owed .1 .1 .0, (owed .1 .1 .1 .0, (owed .1 .1 .1 .1 .0, (list, owed .1 .1 .1 .1 .1 .1))))))
 
 -- ---- its cell, and those of the arrays. The list lies 5,320 bytes into the device (proofs/Header.antt)
 abbrev fields : Tys

@@ -4,6 +4,8 @@
 // copy away, which is measured and not proved.
 // What a caller owes, and nothing here checks: the device was made by `kulduvost_make` and changed by these functions alone, nothing else uses it during a call, the lengths
 // that come with pointers are true, and no two of the areas handed over overlap.
+use commands::media::MediaState;
+use events::empty;
 use events::status::Status;
 use mailbox::by_parts;
 use mailbox::device::Device;
@@ -23,8 +25,10 @@ ghost use Rattle.mailbox.specs.State.{ValidDevice, state-of};
 ghost use Rattle.mailbox.specs.Mailbox.{outcome, area-after};
 ghost use Rattle.mailbox.specs.DeviceCalls.{make, event-report, media-report, line-test, event-status, damage-total};
 ghost use Rattle.mailbox.specs.Contracts.{Answered, Makes, EventDone, MediaDone, StatusGiven};
-ghost use Rattle.mailbox.specs.ByParts.{of-area, of-list, of-injection, of-log};
-ghost use Rattle.embed.specs.Left.{made, answered, Commanded, WithoutArea, event-told, media-told, LineTold, seen, device-size};
+ghost use Rattle.mailbox.specs.Ending.{Ends, AfterEnding};
+ghost use Rattle.mailbox.specs.declared.device.Device.{Device};
+ghost use Rattle.mailbox.specs.ByParts.{of-area, of-list, of-injection, of-log, log-at};
+ghost use Rattle.embed.specs.Left.{made, answered, LogEmptied, WorkEnded, Commanded, WithoutArea, event-told, media-told, LineTold, seen, device-size};
 
 // The answer to a command: the return number, the number of the vector to raise (document 02, W-204; 0 for none) and the length of the reply.
 #[repr(C)]
@@ -50,7 +54,7 @@ pub struct Media {
     pub dropped: u32,
 }
 
-// The answer to a line test: the return number, document 01's number of the answer (0 clean, 1 damaged, 2 unknown) and the type of the damage, 0 where there is none.
+// The answer to a line test: the return number, document 01's number of the answer (0 clean, 1 damaged, 2 unknown; 3 disabled, document 02, W-207) and the type of the damage, 0 where there is none.
 #[repr(C)]
 pub struct Line {
     pub code: u16,
@@ -63,7 +67,7 @@ pub struct Line {
 pub extern "C" fn kulduvost_device_size() -> usize
     ensures { λ r. ⌜ r ≡ device-size ⌝ }
 {
-    7648
+    7672
 }
 
 // Makes a device of so many units behind the pointer; where it refuses, the device of one volatile unit. What lay there before is not asked to be a device that was made.
@@ -77,8 +81,45 @@ pub extern "C" fn kulduvost_make(device: &mut Device, volatile: u16, persistent:
     a.code
 }
 
-// The four functions below run a command on the part of the device that its opcode sees. They are not told of the label area: each requires a valid device and an opcode of that part, and
-// ensures the answer of `kulduvost_command` whatever area of 4,096 bytes is lent (`WithoutArea`).
+// The three functions below end the work of a Sanitize that is due (document 02, W-207), before the call that comes at that time. Each log is emptied where it lies, one after the other.
+// One log, by its number.
+fn end_log(device: &mut Device, number: u8)
+    requires { ⌜ ValidDevice (now device) ⌝ }
+    ensures { λ _. ⌜ LogEmptied (now (device .entry)) (log-at number) (now (device .exit)) × ValidDevice (now (device .exit)) ⌝ }
+{
+    let k = by_parts::log_at(number);
+    let a = empty::emptied(device.logs[k]);
+    device.logs[k] = a;
+}
+
+// All five, and media is enabled.
+fn end_work(device: &mut Device)
+    requires { ⌜ ValidDevice (now device) ⌝ }
+    ensures { λ _. ⌜ WorkEnded (now (device .entry)) (now (device .exit)) ⌝ }
+{
+    end_log(device, 0);
+    end_log(device, 1);
+    end_log(device, 2);
+    end_log(device, 3);
+    end_log(device, 4);
+    let a = MediaState::enabled();
+    device.media = a;
+}
+
+// Where the work is due to end at the caller's time it is ended, else the device stays the very same.
+fn end_due(device: &mut Device, time: u64)
+    requires { ⌜ ValidDevice (now device) ⌝ }
+    ensures { λ _. ⌜ Ends (now (device .entry)) time (now (device .exit)) ⌝ }
+{
+    if MediaState::due(device.media, time) {
+        return end_work(device);
+    } else {
+        return;
+    }
+}
+
+// The four functions below run a command on the part of the device that its opcode sees, a due Sanitize ended. They are not told of the label area: each requires a valid device and an opcode of that part, and
+// ensures the answer of the device as it is, whatever area of 4,096 bytes is lent (`WithoutArea`).
 // A command of the poison list alone: its arrays are lent.
 fn run_on_list(
     device: &mut Device,
@@ -100,6 +141,7 @@ fn run_on_list(
         device.clock,
         device.volatile,
         device.persistent,
+        device.media.disabled,
         opcode,
         payload,
         time,
@@ -137,6 +179,7 @@ fn run_injection(
         device.policy,
         device.volatile,
         device.persistent,
+        device.media.disabled,
         payload,
         time,
         reply,
@@ -165,7 +208,7 @@ fn run_on_log(device: &mut Device, opcode: u16, payload: &[u8], time: u64, reply
     }
 }
 
-// Every other command: clock and policy are copied out and stored back.
+// Every other command: clock, policy and media are copied out and stored back.
 fn run_on_settings(
     device: &mut Device,
     opcode: u16,
@@ -181,6 +224,7 @@ fn run_on_settings(
         device.persistent,
         device.clock,
         device.policy,
+        device.media,
         opcode,
         payload,
         time,
@@ -188,6 +232,7 @@ fn run_on_settings(
     );
     device.clock = a.clock;
     device.policy = a.policy;
+    device.media = a.media;
     Done {
         code: a.code,
         vector: 0,
@@ -195,8 +240,8 @@ fn run_on_settings(
     }
 }
 
-// The two functions below run a command with the label area at hand (document 02, W-206); each ensures what `kulduvost_command` does (`Commanded`).
-// What the area decides, it decides without the device: Get LSA, Set LSA, and 0100h where it has not 4,096 bytes.
+// The two functions below run a command with the label area at hand (document 02, W-206); each ensures the answer of the device as it is (`Commanded`).
+// What the area decides, it decides knowing of the device only whether media is disabled: Get LSA, Set LSA, and 0100h where it has not 4,096 bytes.
 fn run_on_area(
     device: &mut Device,
     opcode: u16,
@@ -208,7 +253,7 @@ fn run_on_area(
     requires { ⌜ ValidDevice (now device) × (of-area opcode (length (now area)) ≡ true) ⌝ }
     ensures { λ r. ⌜ Commanded (now (device .entry)) opcode (now (payload .entry)) time (now (area .entry)) (now (reply .entry)) r (now (device .exit)) (now (area .exit)) (now (reply .exit)) ⌝ }
 {
-    let a = by_parts::area_command(opcode, payload, area, reply);
+    let a = by_parts::area_command(device.media.disabled, opcode, payload, area, reply);
     Done {
         code: a.code,
         vector: 0,
@@ -242,7 +287,7 @@ fn run_on_device(
 // A command, with the caller's time. The reply is written to the lent buffer, the label area that is lent is written by Set LSA alone, and the device behind the pointer is the one that
 // follows.
 // Requires a valid device. Ensures that the number, the length, the vector, every byte of the buffer and the device left are those of `outcome`, that every byte of the area is that of
-// `area-after`, that a refusal leaves the very same device, and that the device left is valid.
+// `area-after`, that a refusal leaves the device that the end of a due Sanitize leaves, the very same where none is due (`AfterEnding`), and that the device left is valid.
 #[no_mangle]
 pub extern "C" fn kulduvost_command(
     device: &mut Device,
@@ -253,8 +298,9 @@ pub extern "C" fn kulduvost_command(
     reply: &mut [u8],
 ) -> Done
     requires { ⌜ ValidDevice (now device) ⌝ }
-    ensures { λ r. ⌜ Answered (outcome (state-of (now (device .entry))) opcode (now (payload .entry)) time (now (area .entry)) (length (now (reply .entry)))) (now (device .entry)) (answered r (now (device .exit))) (now (reply .entry)) (now (reply .exit)) × (now (area .exit) ≡ area-after opcode (now (payload .entry)) (r .code) (now (area .entry))) ⌝ }
+    ensures { λ r. ⌜ AfterEnding (now (device .entry)) time (λ (e : Device). Answered (outcome (state-of (now (device .entry))) opcode (now (payload .entry)) time (now (area .entry)) (length (now (reply .entry)))) e (answered r (now (device .exit))) (now (reply .entry)) (now (reply .exit))) × (now (area .exit) ≡ area-after opcode (now (payload .entry)) (r .code) (now (area .entry))) ⌝ }
 {
+    end_due(device, time);
     if by_parts::of_area(opcode, area.len()) {
         return run_on_area(device, opcode, payload, time, area, reply);
     } else {
@@ -263,7 +309,7 @@ pub extern "C" fn kulduvost_command(
 }
 
 // Event report of a record to a log, at the caller's time. That log alone is copied out and stored back.
-// Requires a valid device. Ensures that the answer and the device left are those of `event-report`, that a refusal leaves the very same device, and that the device left is valid.
+// Requires a valid device. Ensures that the answer and the device left are those of `event-report`, that a refusal leaves the device that the end of a due Sanitize leaves, the very same where none is due, and that the device left is valid.
 #[no_mangle]
 pub extern "C" fn kulduvost_event_report(
     device: &mut Device,
@@ -272,8 +318,9 @@ pub extern "C" fn kulduvost_event_report(
     event: &[u8],
 ) -> Event
     requires { ⌜ ValidDevice (now device) ⌝ }
-    ensures { λ r. ⌜ EventDone (event-report (state-of (now (device .entry))) time log (now (event .entry))) (now (device .entry)) (event-told r (now (device .exit))) ⌝ }
+    ensures { λ r. ⌜ AfterEnding (now (device .entry)) time (λ (e : Device). EventDone (event-report (state-of (now (device .entry))) time log (now (event .entry))) e (event-told r (now (device .exit)))) ⌝ }
 {
+    end_due(device, time);
     let k = by_parts::log_at(log);
     let a = by_parts::event_report_in(
         device.logs[k],
@@ -292,7 +339,7 @@ pub extern "C" fn kulduvost_event_report(
 }
 
 // Media report of damage: so many lines from an address on, of a type, at the caller's time. The arrays of the poison list are lent.
-// Requires a valid device. Ensures that the answer and the device left are those of `media-report`, that a refusal leaves the very same device, and that the device left is valid.
+// Requires a valid device. Ensures that the answer and the device left are those of `media-report`, that a refusal leaves the device that the end of a due Sanitize leaves, the very same where none is due, and that the device left is valid.
 #[no_mangle]
 pub extern "C" fn kulduvost_media_report(
     device: &mut Device,
@@ -302,8 +349,9 @@ pub extern "C" fn kulduvost_media_report(
     kind: u8,
 ) -> Media
     requires { ⌜ ValidDevice (now device) ⌝ }
-    ensures { λ r. ⌜ MediaDone (media-report (state-of (now (device .entry))) time address lines kind) (now (device .entry)) (media-told r (now (device .exit))) ⌝ }
+    ensures { λ r. ⌜ AfterEnding (now (device .entry)) time (λ (e : Device). MediaDone (media-report (state-of (now (device .entry))) time address lines kind) e (media-told r (now (device .exit)))) ⌝ }
 {
+    end_due(device, time);
     let a = by_parts::media_report_in_place(
         &mut device.poison.starts,
         &mut device.poison.lengths,
@@ -337,18 +385,26 @@ fn line_in<'a>(
     kinds: &'a [u8; 256],
     count: usize,
     overflow: bool,
+    disabled: bool,
     volatile: u16,
     persistent: u16,
     address: u64,
 ) -> Line
     requires { ⌜ (volatile + persistent ≤ most-units) × ValidRuns capacity count (now starts) (now lengths) × (length (now kinds) ≡ 256) ⌝ }
-    ensures { λ r. ⌜ LineTold (line-test (seen volatile persistent (list-in count (now (starts .entry)) (now (lengths .entry)) (now (kinds .entry)) overflow)) address) r ⌝ }
+    ensures { λ r. ⌜ LineTold (line-test (seen volatile persistent disabled (list-in count (now (starts .entry)) (now (lengths .entry)) (now (kinds .entry)) overflow)) address) r ⌝ }
 {
     let code = by_parts::check_address(volatile, persistent, address);
     if code != returns::SUCCESS {
         return Line {
             code,
             answer: 2,
+            kind: 0,
+        };
+    }
+    if disabled {
+        return Line {
+            code,
+            answer: 3,
             kind: 0,
         };
     }
@@ -373,7 +429,7 @@ fn line_in<'a>(
     }
 }
 
-// Line test: what the host is told of the line at an address. Nothing of the list is copied but its count and its flag.
+// Line test: what the host is told of the line at an address. It carries no time, and ends no Sanitize. Nothing of the list is copied but its count and its flag.
 // Requires a valid device, and leaves it. Ensures the answer of `line-test`.
 #[no_mangle]
 pub extern "C" fn kulduvost_line_test(device: &Device, address: u64) -> Line
@@ -386,6 +442,7 @@ pub extern "C" fn kulduvost_line_test(device: &Device, address: u64) -> Line
         &device.poison.kinds,
         device.poison.count,
         device.poison.overflow,
+        device.media.disabled,
         device.volatile,
         device.persistent,
         address,

@@ -10,7 +10,9 @@ use lib.Dec.{eqb, ltb}
 use lib.ListN.{length, take, getD, replicate, length-replicate}
 use Rattle.poison.specs.Runs.{total}
 use Rattle.poison.specs.State.{shapes, damage-total}
-use Rattle.poison.specs.LineTest.{answer-number}
+use Rattle.wire.specs.Returns.{Refused}
+use Rattle.mailbox.specs.LineStatus.{status-number}
+use Rattle.mailbox.proofs.Laws.{refused-too}
 use Rattle.events.specs.Log.{LogState, log-at}
 use Rattle.labels.specs.Labels.{label-size, zero-area}
 use Rattle.mailbox.specs.State.{DeviceState, ValidDevice, state-of}
@@ -82,7 +84,7 @@ module _ {b : Build} (m : Meets b) where
     -- the device after a call
     commanded : (a : CommandAsked) → At b (defined a .next)
     commanded a =
-        let r = m .command (p .device) (p .handed) (p .valid) a in
+        let r = m .command (p .device) (p .handed) (p .valid) a .done in
         record {
           device = b .command (p .device) a .answer .device;
           handed = by-command (p .device) (p .handed) a;
@@ -92,7 +94,7 @@ module _ {b : Build} (m : Meets b) where
 
     event-reported : (a : EventAsked) → At b (Device.event-report s (a .time) (a .log) (a .event) .next)
     event-reported a =
-        let r = m .event-report (p .device) (p .handed) (p .valid) a in
+        let r = m .event-report (p .device) (p .handed) (p .valid) a .done in
         record {
           device = b .event-report (p .device) a .device;
           handed = by-event-report (p .device) (p .handed) a;
@@ -102,7 +104,7 @@ module _ {b : Build} (m : Meets b) where
 
     media-reported : (a : MediaAsked) → At b (Device.media-report s (a .time) (a .address) (a .lines) (a .kind) .next)
     media-reported a =
-        let r = m .media-report (p .device) (p .handed) (p .valid) a in
+        let r = m .media-report (p .device) (p .handed) (p .valid) a .done in
         record {
           device = b .media-report (p .device) a .device;
           handed = by-media-report (p .device) (p .handed) a;
@@ -113,35 +115,35 @@ module _ {b : Build} (m : Meets b) where
     -- the number of a call, and the reply of a command, are the definitions' on the view
     command-code : (a : CommandAsked) → b .command (p .device) a .answer .code ≡ defined a .code
     command-code a =
-        m .command (p .device) (p .handed) (p .valid) a .code
+        m .command (p .device) (p .handed) (p .valid) a .done .code
         ∙ ap (λ x. outcome x (a .opcode) (a .payload) (a .time) (a .area) (length (a .before)) .code) (p .view)
 
     command-reply : (a : CommandAsked) → reply-of (b .command (p .device) a) ≡ take (length (defined a .reply)) (splice 0 (defined a .reply) (a .before))
     command-reply a =
-        let r = m .command (p .device) (p .handed) (p .valid) a in
+        let r = m .command (p .device) (p .handed) (p .valid) a .done in
         ap₂ take (r .size) (r .bytes)
         ∙ ap (λ x. take (length (outcome x (a .opcode) (a .payload) (a .time) (a .area) (length (a .before)) .reply)) (splice 0 (outcome x (a .opcode) (a .payload) (a .time) (a .area) (length (a .before)) .reply) (a .before))) (p .view)
 
     event-code : (a : EventAsked) → b .event-report (p .device) a .code ≡ Device.event-report s (a .time) (a .log) (a .event) .code
-    event-code a = m .event-report (p .device) (p .handed) (p .valid) a .code ∙ ap (λ x. Device.event-report x (a .time) (a .log) (a .event) .code) (p .view)
+    event-code a = m .event-report (p .device) (p .handed) (p .valid) a .done .code ∙ ap (λ x. Device.event-report x (a .time) (a .log) (a .event) .code) (p .view)
 
     media-code : (a : MediaAsked) → b .media-report (p .device) a .code ≡ Device.media-report s (a .time) (a .address) (a .lines) (a .kind) .code
     media-code a =
-        m .media-report (p .device) (p .handed) (p .valid) a .code ∙ ap (λ x. Device.media-report x (a .time) (a .address) (a .lines) (a .kind) .code) (p .view)
+        m .media-report (p .device) (p .handed) (p .valid) a .done .code ∙ ap (λ x. Device.media-report x (a .time) (a .address) (a .lines) (a .kind) .code) (p .view)
 
     line-code : (a : LineAsked) → b .line-test (p .device) a .code ≡ Device.line-test s (a .address) .code
     line-code a = m .line-test (p .device) (p .handed) (p .valid) a .code ∙ ap (λ x. Device.line-test x (a .address) .code) (p .view)
 
     -- lines stored, whether an event is stored, what a line test, event status and damage total say
     event-stored : (a : EventAsked) → b .event-report (p .device) a .stored ≡ Device.event-report s (a .time) (a .log) (a .event) .stored
-    event-stored a = m .event-report (p .device) (p .handed) (p .valid) a .stored ∙ ap (λ x. Device.event-report x (a .time) (a .log) (a .event) .stored) (p .view)
+    event-stored a = m .event-report (p .device) (p .handed) (p .valid) a .done .stored ∙ ap (λ x. Device.event-report x (a .time) (a .log) (a .event) .stored) (p .view)
 
     media-stored : (a : MediaAsked) → b .media-report (p .device) a .stored ≡ Device.media-report s (a .time) (a .address) (a .lines) (a .kind) .stored
     media-stored a =
-        m .media-report (p .device) (p .handed) (p .valid) a .stored
+        m .media-report (p .device) (p .handed) (p .valid) a .done .stored
         ∙ ap (λ x. Device.media-report x (a .time) (a .address) (a .lines) (a .kind) .stored) (p .view)
 
-    line-number : (a : LineAsked) → answer-number (b .line-test (p .device) a .answer) ≡ Device.line-test s (a .address) .number
+    line-number : (a : LineAsked) → status-number (b .line-test (p .device) a .answer) ≡ Device.line-test s (a .address) .number
     line-number a = m .line-test (p .device) (p .handed) (p .valid) a .number ∙ ap (λ x. Device.line-test x (a .address) .number) (p .view)
 
     status-bits : b .event-status (p .device) .bits ≡ Device.event-status s .bits
@@ -180,12 +182,12 @@ events-reported m zero = made m one-unit
 events-reported m (suc n) = event-reported m (events-reported m n) an-event
 
 -- ---- one that refuses all
--- a payload with which a command of the opcode is answered 0000h by a new device
+-- a payload with which a command of the opcode is not refused by a new device: it is answered 0000h, and a Sanitize 0001h
 record Succeeds (opcode : ℕ) : Type 0 where
   payload : List ℕ
   small : ltb opcode 65536 ≡ true
   lent : short payload ≡ true
-  code : outcome (Device.make 1 0 .next) opcode payload 0 zero-area 2048 .code ≡ 0
+  taken : Refused (outcome (Device.make 1 0 .next) opcode payload 0 zero-area 2048 .code) → ⊥
 
 -- what holds of k, and of n where the rest of a test holds, holds of n
 one-of : (P : ℕ → Type 0) (n k : ℕ) (rest : Bool) → P k → (rest ≡ true → P n) → (eqb n k || rest) ≡ true → P n
@@ -210,30 +212,31 @@ succeeds n =
     (one-of Succeeds n 0x0300 _ (zeros 0x0300 0 refl refl refl)
     (one-of Succeeds n 0x0301 _ (zeros 0x0301 8 refl refl refl)
     (one-of Succeeds n 0x0400 _ (zeros 0x0400 0 refl refl refl)
-    (one-of Succeeds n 0x0401 _ (record { payload = effects-log-id ++ replicate 8 0; small = refl; lent = refl; code = refl })
+    (one-of Succeeds n 0x0401 _ (record { payload = effects-log-id ++ replicate 8 0; small = refl; lent = refl; taken = λ r. r .not-success refl })
     (one-of Succeeds n 0x4000 _ (zeros 0x4000 0 refl refl refl)
     (one-of Succeeds n 0x4102 _ (zeros 0x4102 8 refl refl refl)
     (one-of Succeeds n 0x4103 _ (zeros 0x4103 8 refl refl refl)
     (one-of Succeeds n 0x4300 _ (zeros 0x4300 16 refl refl refl)
     (one-of Succeeds n 0x4301 _ (zeros 0x4301 8 refl refl refl)
     (one-of Succeeds n 0x4302 _ (zeros 0x4302 72 refl refl refl)
-    none-of)))))))))))))
+    (one-of Succeeds n 0x4400 _ (record { payload = []; small = refl; lent = refl; taken = λ r. r .not-started refl })
+    none-of))))))))))))))
   where
     zeros : (k n : ℕ) → ltb k 65536 ≡ true → short (replicate n 0) ≡ true → outcome (Device.make 1 0 .next) k (replicate n 0) 0 zero-area 2048 .code ≡ 0 → Succeeds k
-    zeros k n s l c = record { payload = replicate n 0; small = s; lent = l; code = c }
+    zeros k n s l c = record { payload = replicate n 0; small = s; lent = l; taken = λ r. r .not-success c }
 
 -- A build that refuses every call of one kind, be it only every command of one opcode, does not meet the contracts.
 pub refuses-one-fails : (b : Build) → RefusesOne b → Meets b → ⊥
 unfolding rules
-refuses-one-fails b (every-make f) m = f one-unit (m .make one-unit .code)
+refuses-one-fails b (every-make f) m = f one-unit .not-success (m .make one-unit .code)
 refuses-one-fails b (every-command opcode k f) m =
     let w = succeeds opcode k in
     let a = asks opcode (w .payload) (w .small) (w .lent) in
-    f (made m one-unit .device) (made m one-unit .handed) a refl (command-code m (made m one-unit) a ∙ w .code)
-refuses-one-fails b (every-event-report f) m = f (made m one-unit .device) (made m one-unit .handed) an-event (event-code m (made m one-unit) an-event)
+    w .taken (refused-too (command-code m (made m one-unit) a) (f (made m one-unit .device) (made m one-unit .handed) a refl))
+refuses-one-fails b (every-event-report f) m = f (made m one-unit .device) (made m one-unit .handed) an-event .not-success (event-code m (made m one-unit) an-event)
 refuses-one-fails b (every-media-report f) m =
-    f (made m one-unit .device) (made m one-unit .handed) (damage 0 (omega arith)) (media-code m (made m one-unit) (damage 0 (omega arith)))
-refuses-one-fails b (every-line-test f) m = f (made m one-unit .device) (made m one-unit .handed) first-line (line-code m (made m one-unit) first-line)
+    f (made m one-unit .device) (made m one-unit .handed) (damage 0 (omega arith)) .not-success (media-code m (made m one-unit) (damage 0 (omega arith)))
+refuses-one-fails b (every-line-test f) m = f (made m one-unit .device) (made m one-unit .handed) first-line .not-success (line-code m (made m one-unit) first-line)
 
 -- A build that refuses all does not meet the contracts.
 pub refuses-all-fails : (b : Build) → RefusesAll b → Meets b → ⊥
@@ -340,7 +343,7 @@ pub fixed-reply-fails : (b : Build) → FixedReply b → Meets b → ⊥
 fixed-reply-fails b f = tells-nothing-fails b (of-command 0x4000 refl (λ d e hd he a _ cd ce. f .fixed d hd a cd ∙ sym (f .fixed e he a ce)))
 
 -- ---- one that changes nothing
--- what can be seen of a device: the records in log 0, the setting of log 0, whether the clock is set, the damage total
+-- what can be seen of a device: the records in log 0, the setting of log 0, whether the clock is set, whether media is disabled, the damage total
 abbrev waiting : DeviceState → ℕ
 waiting s = length (log-at (s .logs) 0 .held)
 
@@ -349,6 +352,9 @@ setting s = getD (s .policy) 0 0
 
 abbrev clock-set : DeviceState → ℕ
 clock-set s = cond (s .clock .set) 1 0
+
+abbrev disabled : DeviceState → ℕ
+disabled s = cond (s .media .disabled) 1 0
 
 -- a device of the build that a command of the opcode changes, by a number seen before and after it
 record Changed (b : Build) (opcode : ℕ) : Type 0 where
@@ -361,7 +367,7 @@ record Changed (b : Build) (opcode : ℕ) : Type 0 where
   apart : eqb (seen (outcome view opcode payload 0 zero-area 2048 .next)) (seen view) ≡ false
 
 -- the witnesses: handle 1 of log 0 cleared after an event (0101h); log 0 enabled (0103h); the clock set to 0 (0301h); line 0 injected (4301h); line 0 cleared after
--- damage there (4302h)
+-- damage there (4302h); a Sanitize started (4400h)
 changes : (b : Build) → Meets b → (n : ℕ) → among changing n ≡ true → Changed b n
 unfolding rules
 changes b m n =
@@ -370,7 +376,8 @@ changes b m n =
     (one-of (Changed b) n 0x0301 _ (seeing 0x0301 (replicate 8 0) refl refl new clock-set refl)
     (one-of (Changed b) n 0x4301 _ (seeing 0x4301 (replicate 8 0) refl refl new Device.damage-total refl)
     (one-of (Changed b) n 0x4302 _ (seeing 0x4302 (replicate 72 0) refl refl (media-reported m new (damage 0 (omega arith))) Device.damage-total refl)
-    none-of))))
+    (one-of (Changed b) n 0x4400 _ (seeing 0x4400 [] refl refl new disabled refl)
+    none-of)))))
   where
     new : At b (Device.make 1 0 .next)
     new = made m one-unit

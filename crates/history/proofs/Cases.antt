@@ -14,7 +14,7 @@ use Rattle.events.proofs.Laws.{handle-stamped, oldest-named, clear-log-taken}
 use Rattle.mailbox.specs.State.{DeviceState, with-logs}
 use Rattle.mailbox.specs.DeviceCalls as Device
 use Rattle.history.specs.Calls.{media-report, step, after}
-use Rattle.history.specs.Cases.{new-unit, event, clear-events, giving, last-handle, use-handles, single-reports, full, cases, drain-cases, given-of, stated-of, example, example-output}
+use Rattle.history.specs.Cases.{new-unit, event, events, nine, clear-events, giving, last-handle, use-handles, single-reports, full, cases, drain-cases, drained-cases, given-of, stated-of, example, example-output}
 use Rattle.history.proofs.Computing.{rules}
 
 -- every row of the table: what the definitions give is what the document says
@@ -26,6 +26,14 @@ cases-hold = refl
 pub drain-cases-hold : map given-of drain-cases ≡ map stated-of drain-cases
 unfolding drain-cases rules
 drain-cases-hold = refl
+
+pub drained-cases-hold : map given-of drained-cases ≡ map stated-of drained-cases
+unfolding drained-cases rules
+drained-cases-hold = refl
+
+pub nine-reached : after new-unit (events 9) ≡ nine
+unfolding rules
+nine-reached = refl
 
 -- the list of 256 entries that P7 to P10 start from is the one that a report of three lines and 255 of one line make of a new device
 pub full-reached : after new-unit (media-report 0 64000 3 2 ∷ single-reports 255) ≡ full

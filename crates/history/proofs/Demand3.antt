@@ -10,6 +10,10 @@ use borrow.Author.Tests.{lt-ltb}
 use lib.Dec.{leb}
 use Rattle.poison.specs.LineTest as Line
 use Rattle.poison.specs.LineTest.{answer-number}
+use Rattle.poison.specs.declared.line_test.LineTest.{LineTest}
+use Rattle.poison.specs.declared.line_test.LineTest.the-variants.{Clean, Damaged, Unknown}
+use Rattle.mailbox.specs.LineStatus.{status-number, status-of}
+use Rattle.mailbox.specs.declared.line_status.LineStatus.the-variants.{Disabled}
 use Rattle.poison.specs.State.{PoisonState, empty}
 use Rattle.poison.specs.Paper.{Paper, blank-paper, Agrees}
 use Rattle.poison.proofs.Laws.{consistent-blank, agrees}
@@ -38,10 +42,21 @@ module _ (d : DeviceState) (k : ℕ) where
   unfolding line-code
   on-device h = simp (remainder k, quotient k, lt-ltb k (lines-of d) h)
 
-  -- a line of the device is answered as the list has it
-  told : k < lines-of d → Device.line-test d (k * 64) ≡ Device.told 0 (Line.line-test (d .poison) k)
+  -- a line of the device is answered as the list has it, while media is enabled
+  told : k < lines-of d → d .media .disabled ≡ false → Device.line-test d (k * 64) ≡ Device.told 0 (status-of (Line.line-test (d .poison) k))
   unfolding Device.line-test
-  told h = simp (on-device h, quotient k)
+  told h on = simp (on-device h, quotient k, on)
+
+  -- and Disabled while it is not
+  told-disabled : k < lines-of d → d .media .disabled ≡ true → Device.line-test d (k * 64) ≡ Device.told 0 Disabled
+  unfolding Device.line-test
+  told-disabled h off = simp (on-device h, off)
+
+-- the device's number of a list's answer is the list's
+same-number : (t : LineTest) → status-number (status-of t) ≡ answer-number t
+same-number Clean = refl
+same-number (Damaged kind) = refl
+same-number Unknown = refl
 
 -- ---- the flag, and the lines that were ever dropped
 -- after some first calls of a list, from a device and a paper, some line is in the dropped set
@@ -92,17 +107,23 @@ demanded made calls n d p h set only =
       dropped-flag = only;
       dropped-inside = a .dropped-inside;
       blocked = λ k e. blocks k (a .inside k e) (a .not-clean k (a .inside k e) e);
-      clean = λ o k l e. says k l (a .clean-else o k l e);
+      clean = λ o on k l e. says on k l (a .clean-else o k l e);
     }
   where
     a : Agrees n (d .poison) p
     a = agrees n (d .poison) p (h .consistent)
 
     blocks : (k : ℕ) → k < n → (answer-number (Line.line-test (d .poison) k) ≡ 0 → ⊥) → Blocks d k
-    blocks k l f = let t = told d k (rw (h .lines) l) in record { code = rw t refl; answer = λ e. f (sym (ap (λ (o : Device.LineOutcome). o .number) t) ∙ e) }
+    blocks k l f = by (d .media .disabled) refl
+      where
+        by : (b : Bool) → d .media .disabled ≡ b → Blocks d k
+        by true off = let t = told-disabled d k (rw (h .lines) l) off in record { code = rw t refl; answer = λ e. let z = sym (ap (λ (o : Device.LineOutcome). o .number) t) ∙ e in omega (arith, z) }
+        by false on =
+            let t = told d k (rw (h .lines) l) on in
+            record { code = rw t refl; answer = λ e. f (sym (same-number (Line.line-test (d .poison) k)) ∙ sym (ap (λ (o : Device.LineOutcome). o .number) t) ∙ e) }
 
-    says : (k : ℕ) → k < n → answer-number (Line.line-test (d .poison) k) ≡ 0 → SaysClean d k
-    says k l e = let t = told d k (rw (h .lines) l) in record { code = rw t refl; answer = rw t e }
+    says : d .media .disabled ≡ false → (k : ℕ) → k < n → answer-number (Line.line-test (d .poison) k) ≡ 0 → SaysClean d k
+    says on k l e = let t = told d k (rw (h .lines) l) on in record { code = rw t refl; answer = rw t (same-number (Line.line-test (d .poison) k) ∙ e) }
 
 -- ---- the device that make hands out, refused or not
 made-empty : (v p : ℕ) → Device.make v p .next .poison ≡ empty

@@ -4,7 +4,7 @@
 use Prim.Native.Nat.{ℕ, zero, suc, _+_, _≤_, _<_, _^_}
 use mathlib.Core.Path.{_≡_, refl}
 use mathlib.Core.Bool.{Bool, true, false, _&&_}
-use mathlib.Core.List.{List, [], _∷_}
+use mathlib.Core.List.{List, [], _∷_, map}
 use native.Mathlib.Omega.{arith}
 use borrow.Author.Tests.{eqb-true, leb-true}
 use lib.Dec.{eqb, leb}
@@ -20,32 +20,37 @@ use Rattle.events.specs.Log as Log
 use Rattle.events.specs.Log.{LogState, ValidState, log-at}
 use Rattle.events.specs.Report as Event
 use Rattle.events.specs.Clear as Clear
-use Rattle.events.proofs.Laws.{report-code-zero, clear-code-zero, valid-new, valid-reported, valid-cleared}
+use Rattle.events.proofs.Laws.{report-code-zero, clear-code-zero, valid-new, valid-reported, valid-cleared, valid-emptied}
 use Rattle.commands.specs.Numbers.{most-units}
-use Rattle.mailbox.specs.State.{DeviceState, lines-of, with-clock, with-policy, with-logs, with-poison}
+use Rattle.mailbox.specs.State.{DeviceState, lines-of, with-clock, with-policy, with-logs, with-poison, with-media}
+use Rattle.mailbox.specs.Ending.{logs-left, ended}
+use Rattle.commands.specs.declared.media.MediaState.{MediaState}
+use Rattle.commands.specs.Media.{due}
+use Rattle.events.specs.Emptied.{emptied}
 use Rattle.mailbox.specs.Outcome.{Outcome}
-use Rattle.commands.specs.Commands.{admission}
+use Rattle.commands.specs.Commands.{first-code}
 use Rattle.commands.specs.declared.clock.Clock.{Clock}
 use Rattle.commands.specs.Clock.{device-time}
 use Rattle.commands.specs.Policy.{set-interrupt-policy}
 use Rattle.mailbox.specs.EventCommands.{clear-event-records}
 use Rattle.commands.specs.PoisonCommands.{line-of, line-code, inject-poison, inject-adds, injection-record, clear-poison}
-use Rattle.mailbox.specs.Mailbox.{run-command, inject, outcome}
+use Rattle.mailbox.specs.Mailbox.{run-command, inject, answer, outcome}
 use Rattle.mailbox.specs.DeviceCalls as Device
 use Rattle.mailbox.proofs.Laws.{line-inside, media-zero, five-settings}
 use Rattle.wire.proofs.Laws.{and-parts, either}
 use Rattle.history.specs.Calls.{Call, command, event-report, media-report, line-test, event-status, damage-total, step, after}
 
 -- ---- what lasts
--- a property of one log that a new log has, and that a report of 128 bytes at a time of 64 bits and a clear keep
+-- a property of one log that a new log has, and that a report of 128 bytes at a time of 64 bits, a clear and the end of a Sanitize keep
 pub record Lasting (P : LogState → Type 0) : Type 0 where
   pub new : P Log.new
   pub reported : (s : LogState) (r : List ℕ) (t : ℕ) → P s → length r ≡ 128 → t < 2 ^ 64 → P (Event.reported s r t)
   pub cleared : (s : LogState) (p : List ℕ) → P s → P (Clear.clear-log s p .log)
+  pub ended : (s : LogState) → P s → P (emptied s)
 
 -- validity is such a property
 pub valid-lasts : Lasting ValidState
-valid-lasts = record { new = valid-new; reported = λ s r t v size small. valid-reported s r t v size; cleared = valid-cleared }
+valid-lasts = record { new = valid-new; reported = λ s r t v size small. valid-reported s r t v size; cleared = valid-cleared; ended = valid-emptied }
 
 -- the time that every call sees has 64 bits, whatever the caller's time is
 time-small : (c : Clock) (time : ℕ) → device-time c time < 2 ^ 64
@@ -220,6 +225,32 @@ module _ {P : LogState → Type 0} (lasting : Lasting P) where
           widths = λ w. record { policy = five-settings (s .policy) p (w .policy); time = w .time };
         }
 
+    media-kept : (m : MediaState) → Kept (with-media s m)
+    media-kept m =
+        record {
+          holds = record { some-unit = h .some-unit; few-units = h .few-units; logs = h .logs; entries = h .entries };
+          widths = λ w. record { policy = w .policy; time = w .time };
+        }
+
+    -- as the end of a due Sanitize leaves it (document 02, W-207)
+    ended-kept : (time : ℕ) → Kept (ended s time)
+    ended-kept time =
+        let k = logs-kept (logs-left (due (s .media) time) (s .logs)) (by-end (due (s .media) time)) in
+        record {
+          holds = record { some-unit = h .some-unit; few-units = h .few-units; logs = k .holds .logs; entries = h .entries };
+          widths = λ w. record { policy = w .policy; time = w .time };
+        }
+      where
+        -- log k of those emptied is log k emptied, also past the last
+        each : (ls : List LogState) (k : ℕ) → P (log-at ls k) → P (log-at (map emptied ls) k)
+        each [] k one = one
+        each (l ∷ ls) zero one = lasting .ended l one
+        each (l ∷ ls) (suc k) one = each ls k one
+
+        by-end : (b : Bool) (k : ℕ) → k < 5 → P (log-at (logs-left b (s .logs)) k)
+        by-end true k less = each (s .logs) k (h .logs k less)
+        by-end false k less = h .logs k less
+
     itself-kept : Kept s
     itself-kept = record { holds = h; widths = λ w. w }
 
@@ -232,7 +263,7 @@ module _ {P : LogState → Type 0} (lasting : Lasting P) where
 
     -- after Inject Poison: the list, and where it added an entry the report of that event to log 0 (document 02, W-204)
     inject-leaves : (p : List ℕ) (time : ℕ) → Leaves (inject s p time)
-    unfolding inject Device.event-report
+    unfolding inject Device.event-answer
     inject-leaves p time =
         let follows = inject-follows (lines-of s) (s .poison) (h .entries) p in
         either Leaves (inject-adds (lines-of s) (s .poison) p)
@@ -257,49 +288,57 @@ module _ {P : LogState → Type 0} (lasting : Lasting P) where
         (either Leaves (eqb op 0x4300) (stays _ refl)
         (either Leaves (eqb op 0x4301) (inject-leaves p time)
         (either Leaves (eqb op 0x4302) (record { kept = list-kept _ (cut-follows (lines-of s) (s .poison) (h .entries) p _ (time-small (s .clock) time)) })
-        (stays _ refl))))))))))))))
+        (either Leaves (eqb op 0x4400) (record { kept = media-kept _ })
+        (stays _ refl)))))))))))))))
 
-    command-kept : (op : ℕ) (p : List ℕ) (time : ℕ) (area : List ℕ) (room : ℕ) → Kept (outcome s op p time area room .next)
-    unfolding outcome
-    command-kept op p time area room = either Leaves (eqb (admission op (length p) (length area) room) 0) (run-leaves op p time area) (stays _ refl) .kept
+    command-kept : (op : ℕ) (p : List ℕ) (time : ℕ) (area : List ℕ) (room : ℕ) → Kept (answer s op p time area room .next)
+    unfolding answer
+    command-kept op p time area room = either Leaves (eqb (first-code (s .media .disabled) op (length p) (length area) room) 0) (run-leaves op p time area) (stays _ refl) .kept
 
     -- after a report
-    event-kept : (time log : ℕ) (bytes : List ℕ) → Kept (Device.event-report s time log bytes .next)
-    unfolding Device.event-report
+    event-kept : (time log : ℕ) (bytes : List ℕ) → Kept (Device.event-answer s time log bytes .next)
+    unfolding Device.event-answer
     event-kept time log bytes = logs-kept _ (told-keeps time log bytes)
 
-    media-kept : (time address n kind : ℕ) → Kept (Device.media-report s time address n kind .next)
-    unfolding Device.media-report
-    media-kept time address n kind = go (eqb (Device.media-code (lines-of s) address n kind) 0) refl
+    media-report-kept : (time address n kind : ℕ) → Kept (Device.media-answer s time address n kind .next)
+    unfolding Device.media-answer
+    media-report-kept time address n kind = go (eqb (Device.media-code (lines-of s) address n kind) 0) refl
       where
         at : ℕ
         at = device-time (s .clock) time
 
-        go : (b : Bool) → eqb (Device.media-code (lines-of s) address n kind) 0 ≡ b → Kept (Device.media-report s time address n kind .next)
+        go : (b : Bool) → eqb (Device.media-code (lines-of s) address n kind) 0 ≡ b → Kept (Device.media-answer s time address n kind .next)
         go true e =
             let z = media-zero (lines-of s) address n kind (eqb-true (Device.media-code (lines-of s) address n kind) 0 e) in
             rw e (list-kept _ (media-follows (lines-of s) (s .poison) (h .entries) (line-of address) n kind at (time-small (s .clock) time) (z .1) (z .0)))
         go false e = rw e itself-kept
 
-    -- after any call
-    call-kept : (c : Call) → Kept (step s c .next)
+  -- after any call: a due Sanitize ended, then the answer of the device that it finds
+  module _ (s : DeviceState) (h : Holding P s) where
+    then-kept : (time : ℕ) {e : DeviceState} → Kept (ended s time) (ended-kept s h time .holds) e → Kept s h e
+    then-kept time k = record { holds = k .holds; widths = λ w. k .widths (ended-kept s h time .widths w) }
+
+    call-kept : (c : Call) → Kept s h (step s c .next)
     unfolding step
-    call-kept (command opcode payload time area room) = command-kept opcode payload time area room
-    call-kept (event-report time log bytes) = event-kept time log bytes
-    call-kept (media-report time address lines kind) = media-kept time address lines kind
-    call-kept (line-test address) = itself-kept
-    call-kept event-status = itself-kept
-    call-kept damage-total = itself-kept
+    call-kept (command opcode payload time area room) = then-kept time (command-kept (ended s time) (ended-kept s h time .holds) opcode payload time area room)
+    call-kept (event-report time log bytes) = then-kept time (event-kept (ended s time) (ended-kept s h time .holds) time log bytes)
+    call-kept (media-report time address lines kind) = then-kept time (media-report-kept (ended s time) (ended-kept s h time .holds) time address lines kind)
+    call-kept (line-test address) = itself-kept s h
+    call-kept event-status = itself-kept s h
+    call-kept damage-total = itself-kept s h
 
     -- of each, what it holds
     pub command-leaves : (op : ℕ) (p : List ℕ) (time : ℕ) (area : List ℕ) (room : ℕ) → Holding P (outcome s op p time area room .next)
-    command-leaves op p time area room = command-kept op p time area room .holds
+    command-leaves op p time area room = command-kept (ended s time) (ended-kept s h time .holds) op p time area room .holds
 
     pub event-leaves : (time log : ℕ) (bytes : List ℕ) → Holding P (Device.event-report s time log bytes .next)
-    event-leaves time log bytes = event-kept time log bytes .holds
+    event-leaves time log bytes = event-kept (ended s time) (ended-kept s h time .holds) time log bytes .holds
 
     pub media-leaves : (time address n kind : ℕ) → Holding P (Device.media-report s time address n kind .next)
-    media-leaves time address n kind = media-kept time address n kind .holds
+    media-leaves time address n kind = media-report-kept (ended s time) (ended-kept s h time .holds) time address n kind .holds
+
+    pub ended-leaves : (time : ℕ) → Holding P (ended s time)
+    ended-leaves time = ended-kept s h time .holds
 
   -- new logs, and a new device
   new-logs : (n k : ℕ) → k < n → P (log-at (replicate n Log.new) k)

@@ -17,3 +17,4 @@ pub mod Cases
 pub mod Interrupts
 pub mod Reserved
 pub mod Labels
+pub mod Sanitizing

@@ -11,7 +11,8 @@ use Rattle.mailbox.specs.declared.device.Device.{Device}
 use Rattle.mailbox.specs.Mailbox.{outcome}
 use Rattle.mailbox.specs.DeviceCalls as Device
 use Rattle.mailbox.specs.Contracts.{Answered, Makes, EventDone, MediaDone}
-use Rattle.mailbox.proofs.Laws.{carries-numbered}
+use Rattle.mailbox.specs.Ending.{AfterEnding}
+use Rattle.mailbox.proofs.Laws.{carries-numbered, disabled-not-clean}
 use Rattle.embed.specs.declared.Done.{Done}
 use Rattle.embed.specs.declared.Event.{Event}
 use Rattle.embed.specs.declared.Media.{Media}
@@ -28,14 +29,14 @@ pub linked-make : (v p r : ℕ) (e : Device) → Makes (Device.make v p) (made r
 linked-make v p r e a = make-starts v p (made r e) a
 
 pub linked-command : (d e : Device) (opcode : ℕ) (payload : List ℕ) (time : ℕ) (area before after : List ℕ) (r : Done)
-    → Answered (outcome (state-of d) opcode payload time area (length before)) d (answered r e) before after → Steps d e (command opcode payload time area (length before)) (r .code)
+    → AfterEnding d time (λ (f : Device). Answered (outcome (state-of d) opcode payload time area (length before)) f (answered r e) before after) → Steps d e (command opcode payload time area (length before)) (r .code)
 linked-command d e opcode payload time area before after r a = command-steps d opcode payload time area before after (answered r e) a
 
-pub linked-event : (d e : Device) (time log : ℕ) (bytes : List ℕ) (r : Event) → EventDone (Device.event-report (state-of d) time log bytes) d (event-told r e)
+pub linked-event : (d e : Device) (time log : ℕ) (bytes : List ℕ) (r : Event) → AfterEnding d time (λ (f : Device). EventDone (Device.event-report (state-of d) time log bytes) f (event-told r e))
     → Steps d e (event-report time log bytes) (r .code)
 linked-event d e time log bytes r a = event-steps d time log bytes (event-told r e) a
 
-pub linked-media : (d e : Device) (time address lines kind : ℕ) (r : Media) → MediaDone (Device.media-report (state-of d) time address lines kind) d (media-told r e)
+pub linked-media : (d e : Device) (time address lines kind : ℕ) (r : Media) → AfterEnding d time (λ (f : Device). MediaDone (Device.media-report (state-of d) time address lines kind) f (media-told r e))
     → Steps d e (media-report time address lines kind) (r .code)
 linked-media d e time address lines kind r a = media-steps d time address lines kind (media-told r e) a
 
@@ -45,12 +46,12 @@ linked-line d address r a = record { number = a .code; next = refl }
 
 -- ---- the vector that a C caller is handed is the number that the definitions give (document 02, W-204)
 pub linked-command-vector : (d e : Device) (opcode : ℕ) (payload : List ℕ) (time : ℕ) (area before after : List ℕ) (r : Done)
-    → Answered (outcome (state-of d) opcode payload time area (length before)) d (answered r e) before after → r .vector ≡ outcome (state-of d) opcode payload time area (length before) .vector
-linked-command-vector d e opcode payload time area before after r a = sym (carries-numbered (r .vector) .number) ∙ a .vector .number
+    → AfterEnding d time (λ (f : Device). Answered (outcome (state-of d) opcode payload time area (length before)) f (answered r e) before after) → r .vector ≡ outcome (state-of d) opcode payload time area (length before) .vector
+linked-command-vector d e opcode payload time area before after r a = sym (carries-numbered (r .vector) .number) ∙ a .done .vector .number
 
-pub linked-event-vector : (d e : Device) (time log : ℕ) (bytes : List ℕ) (r : Event) → EventDone (Device.event-report (state-of d) time log bytes) d (event-told r e)
+pub linked-event-vector : (d e : Device) (time log : ℕ) (bytes : List ℕ) (r : Event) → AfterEnding d time (λ (f : Device). EventDone (Device.event-report (state-of d) time log bytes) f (event-told r e))
     → r .vector ≡ Device.event-report (state-of d) time log bytes .vector
-linked-event-vector d e time log bytes r a = sym (carries-numbered (r .vector) .number) ∙ a .vector .number
+linked-event-vector d e time log bytes r a = sym (carries-numbered (r .vector) .number) ∙ a .done .vector .number
 
 -- ---- what the read path is told: 0 is Clean, the one answer that permits
 module _ (v p : ℕ) (cs : List Call) (d : Device) (w : Paper) (ran : Ran v p cs d w) where
@@ -58,10 +59,14 @@ module _ (v p : ℕ) (cs : List Call) (d : Device) (w : Paper) (ran : Ran v p cs
   pub linked-blocks : (k : ℕ) → w .set k ≡ true → (r : Line) → LineTold (Device.line-test (state-of d) (k * 64)) r → (r .code ≡ 0) × (r .answer ≡ 0 → ⊥)
   linked-blocks k e r a = let b = code-demand-3 v p cs d w ran .blocked k e in (a .code ∙ b .code, λ c. b .answer (sym (a .answer) ∙ c))
 
-  -- While the flag is clear, that of every other line of the device succeeds, and its answer is 0.
-  pub linked-clean : d .poison .overflow ≡ false → (k : ℕ) → k < lines-of (Device.make v p .next) → w .set k ≡ false
+  -- While the flag is clear and media is enabled, that of every other line of the device succeeds, and its answer is 0.
+  pub linked-clean : d .poison .overflow ≡ false → d .media .disabled ≡ false → (k : ℕ) → k < lines-of (Device.make v p .next) → w .set k ≡ false
       → (r : Line) → LineTold (Device.line-test (state-of d) (k * 64)) r → (r .code ≡ 0) × (r .answer ≡ 0)
-  linked-clean o k l e r a = let b = code-demand-3 v p cs d w ran .clean o k l e in (a .code ∙ b .code, a .answer ∙ b .answer)
+  linked-clean o on k l e r a = let b = code-demand-3 v p cs d w ran .clean o on k l e in (a .code ∙ b .code, a .answer ∙ b .answer)
+
+-- While media is disabled no line is answered 0 (document 02, W-207).
+pub linked-disabled : (d : Device) (address : ℕ) (r : Line) → LineTold (Device.line-test (state-of d) address) r → d .media .disabled ≡ true → r .answer ≡ 0 → ⊥
+linked-disabled d address r a off c = disabled-not-clean (state-of d) address off (sym (a .answer) ∙ c)
 
 -- A line that a call through the pointer reported damaged, by the number that it answered, and that no later one cleared, blocks.
 pub linked-reported-blocks : (v p : ℕ) (cs : List Call) (d : Device) (w : Paper) → Ran v p cs d w

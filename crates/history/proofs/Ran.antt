@@ -8,9 +8,11 @@ use Prim.Native.Nat.{ℕ, _+_, _*_, _<_}
 use native.Mathlib.Omega.{arith}
 use lib.ListN.{length}
 use Rattle.poison.specs.Runs.{count}
-use Rattle.poison.specs.LineTest.{answer-number}
-use Rattle.poison.specs.declared.line_test.LineTest.{LineTest}
-use Rattle.poison.specs.declared.line_test.LineTest.the-variants.{Clean, Damaged, Unknown}
+use Rattle.mailbox.specs.Ending.{AfterEnding}
+use Rattle.mailbox.specs.LineStatus.{status-number}
+use Rattle.mailbox.specs.declared.line_status.LineStatus.{LineStatus}
+use Rattle.mailbox.specs.declared.line_status.LineStatus.the-variants.{Clean, Damaged, Unknown, Disabled}
+use Rattle.mailbox.proofs.Laws.{disabled-not-clean}
 use Rattle.poison.specs.Paper.{Paper, blank-paper}
 use Rattle.events.specs.declared.status.Status.{Status}
 use Rattle.mailbox.specs.State.{DeviceState, lines-of, state-of}
@@ -33,17 +35,17 @@ use Rattle.history.proofs.Damage.{set-reported, set-kept}
 
 -- ---- what each contract gives
 pub command-steps : (d : Device) (opcode : ℕ) (payload : List ℕ) (time : ℕ) (area before after : List ℕ) (r : Answer)
-    → Answered (outcome (state-of d) opcode payload time area (length before)) d r before after → Steps d (r .device) (command opcode payload time area (length before)) (r .code)
+    → AfterEnding d time (λ (e : Device). Answered (outcome (state-of d) opcode payload time area (length before)) e r before after) → Steps d (r .device) (command opcode payload time area (length before)) (r .code)
 unfolding step
-command-steps d opcode payload time area before after r a = record { number = a .code; next = a .next }
+command-steps d opcode payload time area before after r a = record { number = a .done .code; next = a .done .next }
 
-pub event-steps : (d : Device) (time log : ℕ) (bytes : List ℕ) (r : EventAnswer) → EventDone (Device.event-report (state-of d) time log bytes) d r → Steps d (r .device) (event-report time log bytes) (r .code)
+pub event-steps : (d : Device) (time log : ℕ) (bytes : List ℕ) (r : EventAnswer) → AfterEnding d time (λ (e : Device). EventDone (Device.event-report (state-of d) time log bytes) e r) → Steps d (r .device) (event-report time log bytes) (r .code)
 unfolding step
-event-steps d time log bytes r a = record { number = a .code; next = a .next }
+event-steps d time log bytes r a = record { number = a .done .code; next = a .done .next }
 
-pub media-steps : (d : Device) (time address lines kind : ℕ) (r : MediaAnswer) → MediaDone (Device.media-report (state-of d) time address lines kind) d r → Steps d (r .device) (media-report time address lines kind) (r .code)
+pub media-steps : (d : Device) (time address lines kind : ℕ) (r : MediaAnswer) → AfterEnding d time (λ (e : Device). MediaDone (Device.media-report (state-of d) time address lines kind) e r) → Steps d (r .device) (media-report time address lines kind) (r .code)
 unfolding step
-media-steps d time address lines kind r a = record { number = a .code; next = a .next }
+media-steps d time address lines kind r a = record { number = a .done .code; next = a .done .next }
 
 -- line test, event status and damage total hand back no device: the same one goes on
 pub line-steps : (d : Device) (address : ℕ) (r : LineAnswer) → LineDone (Device.line-test (state-of d) address) r → Steps d d (line-test address) (r .code)
@@ -85,10 +87,11 @@ pub code-demand-3 : (v p : ℕ) (cs : List Call) (d : Device) (w : Paper) → Ra
 code-demand-3 v p cs d w ran = let h = ran-history v p cs d w ran in rw (h .0, h .1) (demand-3 v p cs)
 
 -- ---- what the code hands back
-clean-of : (a : LineTest) → answer-number a ≡ 0 → a ≡ Clean
+clean-of : (a : LineStatus) → status-number a ≡ 0 → a ≡ Clean
 clean-of Clean e = refl
 clean-of (Damaged kind) e = absurd (omega arith)
 clean-of Unknown e = absurd (omega arith)
+clean-of Disabled e = absurd (omega arith)
 
 -- a run of the code that ends in a device, with line k in its paper set
 pub record Still (v p k : ℕ) (d : Device) : Type 0 where
@@ -113,14 +116,18 @@ module _ (v p : ℕ) (cs : List Call) (d : Device) (w : Paper) (ran : Ran v p cs
   pub code-blocks : (k : ℕ) → w .set k ≡ true → (r : LineAnswer) → LineDone (Device.line-test (state-of d) (k * 64)) r → (r .code ≡ 0) × (r .answer ≡ Clean → ⊥)
   code-blocks k e r a =
       let b = code-demand-3 v p cs d w ran .blocked k e in
-      (a .code ∙ b .code, λ c. b .answer (sym (a .number) ∙ ap answer-number c))
+      (a .code ∙ b .code, λ c. b .answer (sym (a .number) ∙ ap status-number c))
 
-  -- While the flag is clear, that of every other line of the device succeeds, and its answer is Clean.
-  pub code-clean : d .poison .overflow ≡ false → (k : ℕ) → k < lines-of (Device.make v p .next) → w .set k ≡ false
+  -- While the flag is clear and media is enabled, that of every other line of the device succeeds, and its answer is Clean.
+  pub code-clean : d .poison .overflow ≡ false → d .media .disabled ≡ false → (k : ℕ) → k < lines-of (Device.make v p .next) → w .set k ≡ false
       → (r : LineAnswer) → LineDone (Device.line-test (state-of d) (k * 64)) r → (r .code ≡ 0) × (r .answer ≡ Clean)
-  code-clean o k l e r a =
-      let b = code-demand-3 v p cs d w ran .clean o k l e in
+  code-clean o on k l e r a =
+      let b = code-demand-3 v p cs d w ran .clean o on k l e in
       (a .code ∙ b .code, clean-of (r .answer) (a .number ∙ b .answer))
+
+  -- While media is disabled no line is answered Clean, whatever the paper.
+  pub code-disabled : d .media .disabled ≡ true → (address : ℕ) (r : LineAnswer) → LineDone (Device.line-test (state-of d) address) r → r .answer ≡ Clean → ⊥
+  code-disabled off address r a c = disabled-not-clean (state-of d) address off (sym (a .number) ∙ ap status-number c)
 
   -- The number that damage total hands back is the one in the size equation.
   pub code-size : (total : ℕ) → total ≡ Device.damage-total (state-of d)

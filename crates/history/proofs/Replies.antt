@@ -13,11 +13,13 @@ use Rattle.poison.specs.Paper.{Paper, blank-paper}
 use Rattle.events.specs.Log.{LogState, new}
 use Rattle.events.specs.Report.{has-room, reported}
 use Rattle.events.specs.Clear.{ClearedState, clear-log-code, clear-size, without, clear-log}
-use Rattle.events.proofs.Laws.{Whole, whole-new, whole-reported, whole-cleared}
+use Rattle.events.proofs.Laws.{Whole, whole-new, whole-emptied, whole-reported, whole-cleared}
 use Rattle.mailbox.specs.State.{lines-of, state-of}
 use Rattle.mailbox.specs.Outcome.{Outcome}
 use Rattle.mailbox.specs.Mailbox.{outcome}
 use Rattle.mailbox.specs.DeviceCalls.{make}
+use Rattle.events.specs.Emptied.{emptied}
+use Rattle.mailbox.specs.Ending.{AfterEnding}
 use Rattle.mailbox.specs.Contracts.{Answered}
 use Rattle.mailbox.specs.declared.device.Device.{Device}
 use Rattle.mailbox.specs.declared.device.Answer.{Answer}
@@ -72,6 +74,7 @@ plain-lasts =
       reported = λ s r t h size small.
           plain-log (reported s r t) (whole-reported s r t (whole-log s h) size) (counted-reported s r t (counted-log s h) small);
       cleared = λ s p h. plain-log (clear-log s p .log) (whole-cleared s p (whole-log s h)) (counted-cleared s p (counted-log s h));
+      ended = λ s h. plain-log (emptied s) (whole-emptied s) (record { overflow = omega arith; first = omega arith; last = omega arith });
     }
 
 -- ---- from any device reached by calls on a new one
@@ -112,8 +115,8 @@ code-reply-size o d a before after asked = ap length (reply-read o d a before af
 -- then holds.
 pub code-replies-accepted : (v p : ℕ) (cs : List Call) (d : Device) (w : Paper) → Ran v p cs d w
     → (op : ℕ) → (op ≡ 0x4102 → ⊥) → (op ≡ 0x4103 → ⊥) → (payload : List ℕ) (time : ℕ) (area before after : List ℕ) (a : Answer)
-    → Answered (outcome (state-of d) op payload time area (length before)) d a before after
+    → AfterEnding d time (λ (e : Device). Answered (outcome (state-of d) op payload time area (length before)) e a before after)
     → a .code ≡ 0 → reading-code op (field payload 20 4) (reply-in after a) ≡ 0
 code-replies-accepted v p cs d w ran op f g payload time area before after a asked success =
-    ap (reading-code op (field payload 20 4)) (reply-read (outcome (state-of d) op payload time area (length before)) d a before after asked)
-    ∙ accepted (state-of d) (plain-ran v p cs d w ran) op f g payload time area (length before) (sym (asked .code) ∙ success)
+    ap (reading-code op (field payload 20 4)) (reply-read (outcome (state-of d) op payload time area (length before)) (asked .found) a before after (asked .done))
+    ∙ accepted (state-of d) (plain-ran v p cs d w ran) op f g payload time area (length before) (sym (asked .done .code) ∙ success)

@@ -14,12 +14,13 @@ use Rattle.poison.specs.Paper.{Paper, paper-report}
 use Rattle.poison.proofs.Laws.{Consistent, consistent-report, consistent-inject, consistent-clear, Flags, report-flags, inject-flags, clear-flags}
 use Rattle.commands.specs.Numbers.{unit-lines}
 use Rattle.mailbox.specs.State.{DeviceState, lines-of}
+use Rattle.mailbox.specs.Ending.{ended}
 use Rattle.mailbox.specs.Outcome.{Outcome}
-use Rattle.commands.specs.Commands.{admission}
+use Rattle.commands.specs.Commands.{first-code}
 use Rattle.commands.specs.Clock.{device-time}
 use Rattle.mailbox.specs.EventCommands.{clear-event-records}
 use Rattle.commands.specs.PoisonCommands.{line-of, line-code, inject-poison, clear-poison}
-use Rattle.mailbox.specs.Mailbox.{run-command, outcome}
+use Rattle.mailbox.specs.Mailbox.{run-command, answer}
 use Rattle.mailbox.specs.DeviceCalls as Device
 use Rattle.mailbox.proofs.Laws.{line-inside, media-zero, injection-list}
 use Rattle.history.specs.Calls.{Call, command, event-report, media-report, line-test, event-status, damage-total, step}
@@ -77,7 +78,8 @@ run-leaves d op p t area i c =
     (either d (eqb op 0x4102) _ _ (same-self d)
     (either d (eqb op 0x4103) _ _ (same-self d)
     (either d (eqb op 0x4300) _ _ (same-self d)
-    (same-self d)))))))))))))
+    (either d (eqb op 0x4400) _ _ (record { lines = refl; list = refl })
+    (same-self d))))))))))))))
 
 -- ---- Inject Poison and Clear Poison
 inject-keeps : (n : ℕ) (s : PoisonState) (p : Paper) (payload : List ℕ) → Consistent n s p
@@ -112,8 +114,8 @@ clear-keeps n s p payload time h = checked (eqb (line-code n a) 0) refl
     checked false e = rw (e, e) (kept-same n s p h)
 
 -- ---- the device-side calls
-event-leaves : (d : DeviceState) (time log : ℕ) (bytes : List ℕ) → Same d (Device.event-report d time log bytes .next)
-unfolding Device.event-report
+event-leaves : (d : DeviceState) (time log : ℕ) (bytes : List ℕ) → Same d (Device.event-answer d time log bytes .next)
+unfolding Device.event-answer
 event-leaves d time log bytes = record { lines = refl; list = refl }
 
 -- ---- the commands
@@ -161,23 +163,23 @@ module _ (n : ℕ) (d : DeviceState) (p : Paper) (h : Holds n d p) where
               rw (as-it-was (eqb (run-command d op payload time area .code) 0) op payload i c)
               (moves-same n d (run-command d op payload time area .next) p (run-leaves d op payload time area i c) h)
 
-  command-holds : (op : ℕ) (payload : List ℕ) (time : ℕ) (area : List ℕ) (room : ℕ) → Moves n d (outcome d op payload time area room .next) (cond (eqb (outcome d op payload time area room .code) 0) (write-command p op payload) p)
-  unfolding outcome
-  command-holds op payload time area room = admitted (eqb (admission op (length payload) (length area) room) 0) refl
+  command-holds : (op : ℕ) (payload : List ℕ) (time : ℕ) (area : List ℕ) (room : ℕ) → Moves n d (answer d op payload time area room .next) (cond (eqb (answer d op payload time area room .code) 0) (write-command p op payload) p)
+  unfolding answer
+  command-holds op payload time area room = admitted (eqb (first-code (d .media .disabled) op (length payload) (length area) room) 0) refl
     where
-      admitted : (b : Bool) → eqb (admission op (length payload) (length area) room) 0 ≡ b
-          → Moves n d (outcome d op payload time area room .next) (cond (eqb (outcome d op payload time area room .code) 0) (write-command p op payload) p)
+      admitted : (b : Bool) → eqb (first-code (d .media .disabled) op (length payload) (length area) room) 0 ≡ b
+          → Moves n d (answer d op payload time area room .next) (cond (eqb (answer d op payload time area room .code) 0) (write-command p op payload) p)
       admitted true a = rw a (run-holds op payload time area)
       admitted false a = rw (a, a) stays
 
   -- a media report
   media-holds : (time address lines kind : ℕ)
-      → Moves n d (Device.media-report d time address lines kind .next) (cond (eqb (Device.media-report d time address lines kind .code) 0) (paper-report p (line-of address) lines) p)
-  unfolding Device.media-report
+      → Moves n d (Device.media-answer d time address lines kind .next) (cond (eqb (Device.media-answer d time address lines kind .code) 0) (paper-report p (line-of address) lines) p)
+  unfolding Device.media-answer
   media-holds time address lines kind = checked (eqb (Device.media-code (lines-of d) address lines kind) 0) refl
     where
       checked : (b : Bool) → eqb (Device.media-code (lines-of d) address lines kind) 0 ≡ b
-          → Moves n d (Device.media-report d time address lines kind .next) (cond (eqb (Device.media-report d time address lines kind .code) 0) (paper-report p (line-of address) lines) p)
+          → Moves n d (Device.media-answer d time address lines kind .next) (cond (eqb (Device.media-answer d time address lines kind .code) 0) (paper-report p (line-of address) lines) p)
       checked true e =
           rw e
           (record {
@@ -186,15 +188,23 @@ module _ (n : ℕ) (d : DeviceState) (p : Paper) (h : Holds n d p) where
           })
       checked false e = rw (e, e) stays
 
-  -- every call
+-- ---- every call. The end of a Sanitize touches neither the list nor the paper (document 02, W-207): what holds of a device holds of the one that a call finds
+module _ (n : ℕ) (d : DeviceState) (p : Paper) (h : Holds n d p) where
+  holds-found : (time : ℕ) → Holds n (ended d time) p
+  holds-found time = record { lines = h .lines; consistent = h .consistent }
+
+  from-found : (time : ℕ) {e : DeviceState} {q : Paper} → Moves n (ended d time) e q → Moves n d e q
+  from-found time m = record { lines = m .lines; kept = m .kept }
+
   call-moves : (c : Call) → Moves n d (step d c .next) (write p c (step d c .code))
   unfolding step write
-  call-moves (command opcode payload time area room) = command-holds opcode payload time area room
-  call-moves (event-report time log bytes) = moves-same n d (Device.event-report d time log bytes .next) p (event-leaves d time log bytes) h
-  call-moves (media-report time address lines kind) = media-holds time address lines kind
-  call-moves (line-test address) = stays
-  call-moves event-status = stays
-  call-moves damage-total = stays
+  call-moves (command opcode payload time area room) = from-found time (command-holds n (ended d time) p (holds-found time) opcode payload time area room)
+  call-moves (event-report time log bytes) =
+      from-found time (moves-same n (ended d time) (Device.event-report d time log bytes .next) p (event-leaves (ended d time) time log bytes) (holds-found time))
+  call-moves (media-report time address lines kind) = from-found time (media-holds n (ended d time) p (holds-found time) time address lines kind)
+  call-moves (line-test address) = stays n d p h
+  call-moves event-status = stays n d p h
+  call-moves damage-total = stays n d p h
 
   pub call-holds : (c : Call) → Holds n (step d c .next) (write p c (step d c .code))
   call-holds c = let m = call-moves c in record { lines = m .lines; consistent = m .kept .consistent }

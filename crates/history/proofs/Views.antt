@@ -69,6 +69,7 @@ device-of s =
       policy = s .policy;
       logs = map log-of (s .logs);
       poison = list-of (s .poison);
+      media = s .media;
     }
 
 -- its logs, its whole view
@@ -86,6 +87,7 @@ device-again s =
       policy = s .policy;
       logs = logs-again (s .logs) i;
       poison = list-again (s .poison) i;
+      media = s .media;
     }
 
 -- ---- valid views

@@ -8,7 +8,7 @@ use mathlib.Core.Bool.{Bool, true, false, _&&_, _||_}
 use mathlib.Core.List.{List, [], _∷_}
 use lib.Dec.{ltb, eqb}
 use lib.ListN.{length}
-use Rattle.poison.specs.LineTest.{answer-number}
+use Rattle.wire.specs.Returns.{Refused}
 use Rattle.events.specs.Log.{log-at}
 use Rattle.events.specs.declared.status.Status.{Status}
 use Rattle.mailbox.specs.State.{ValidDevice, state-of}
@@ -20,6 +20,8 @@ use Rattle.mailbox.specs.declared.device_calls.MediaAnswer.{MediaAnswer}
 use Rattle.mailbox.specs.declared.device_calls.LineAnswer.{LineAnswer}
 use Rattle.commands.specs.Commands.{commands, known}
 use Rattle.mailbox.specs.Mailbox.{outcome, area-after}
+use Rattle.mailbox.specs.Ending.{AfterEnding}
+use Rattle.mailbox.specs.LineStatus.{status-number}
 use Rattle.mailbox.specs.DeviceCalls as Device
 use Rattle.mailbox.specs.Contracts.{Answered, Makes, EventDone, MediaDone, LineDone, StatusGiven}
 use Rattle.history.specs.Ran.{reply-in}
@@ -110,33 +112,33 @@ pub data Handed (b : Build) : Device → Type 0 where
 pub record Meets (b : Build) : Type 0 where
   pub make : (a : MakeAsked) → Makes (Device.make (a .volatile) (a .persistent)) (b .make a)
   pub command : (d : Device) → Handed b d → ValidDevice d → (a : CommandAsked)
-      → Answered (outcome (state-of d) (a .opcode) (a .payload) (a .time) (a .area) (length (a .before))) d (b .command d a .answer) (a .before) (b .command d a .after)
+      → AfterEnding d (a .time) (λ (e : Device). Answered (outcome (state-of d) (a .opcode) (a .payload) (a .time) (a .area) (length (a .before))) e (b .command d a .answer) (a .before) (b .command d a .after))
   pub labels : (d : Device) → Handed b d → ValidDevice d → (a : CommandAsked) → b .command d a .left ≡ area-after (a .opcode) (a .payload) (b .command d a .answer .code) (a .area)
   pub event-report : (d : Device) → Handed b d → ValidDevice d → (a : EventAsked)
-      → EventDone (Device.event-report (state-of d) (a .time) (a .log) (a .event)) d (b .event-report d a)
+      → AfterEnding d (a .time) (λ (e : Device). EventDone (Device.event-report (state-of d) (a .time) (a .log) (a .event)) e (b .event-report d a))
   pub media-report : (d : Device) → Handed b d → ValidDevice d → (a : MediaAsked)
-      → MediaDone (Device.media-report (state-of d) (a .time) (a .address) (a .lines) (a .kind)) d (b .media-report d a)
+      → AfterEnding d (a .time) (λ (e : Device). MediaDone (Device.media-report (state-of d) (a .time) (a .address) (a .lines) (a .kind)) e (b .media-report d a))
   pub line-test : (d : Device) → Handed b d → ValidDevice d → (a : LineAsked) → LineDone (Device.line-test (state-of d) (a .address)) (b .line-test d a)
   pub event-status : (d : Device) → Handed b d → ValidDevice d → StatusGiven (Device.event-status (state-of d)) (b .event-status d)
   pub damage-total : (d : Device) → Handed b d → ValidDevice d → b .damage-total d ≡ Device.damage-total (state-of d)
 
 -- ---- the faults
--- "one that refuses all": no call is answered 0000h
+-- "one that refuses all": every call is answered with a refusal, a number other than 0000h and 0001h
 pub record RefusesAll (b : Build) : Type 0 where
-  pub make : (a : MakeAsked) → b .make a .code ≡ 0 → ⊥
-  pub command : (d : Device) → Handed b d → (a : CommandAsked) → b .command d a .answer .code ≡ 0 → ⊥
-  pub event-report : (d : Device) → Handed b d → (a : EventAsked) → b .event-report d a .code ≡ 0 → ⊥
-  pub media-report : (d : Device) → Handed b d → (a : MediaAsked) → b .media-report d a .code ≡ 0 → ⊥
-  pub line-test : (d : Device) → Handed b d → (a : LineAsked) → b .line-test d a .code ≡ 0 → ⊥
+  pub make : (a : MakeAsked) → Refused (b .make a .code)
+  pub command : (d : Device) → Handed b d → (a : CommandAsked) → Refused (b .command d a .answer .code)
+  pub event-report : (d : Device) → Handed b d → (a : EventAsked) → Refused (b .event-report d a .code)
+  pub media-report : (d : Device) → Handed b d → (a : MediaAsked) → Refused (b .media-report d a .code)
+  pub line-test : (d : Device) → Handed b d → (a : LineAsked) → Refused (b .line-test d a .code)
 
 -- less of a fault: it refuses every call of one kind, be it only every command of one known opcode
 pub data RefusesOne (b : Build) : Type 0 where
-  every-make : ((a : MakeAsked) → b .make a .code ≡ 0 → ⊥) → RefusesOne b
+  every-make : ((a : MakeAsked) → Refused (b .make a .code)) → RefusesOne b
   every-command : (opcode : ℕ) → known commands opcode ≡ true
-      → ((d : Device) → Handed b d → (a : CommandAsked) → a .opcode ≡ opcode → b .command d a .answer .code ≡ 0 → ⊥) → RefusesOne b
-  every-event-report : ((d : Device) → Handed b d → (a : EventAsked) → b .event-report d a .code ≡ 0 → ⊥) → RefusesOne b
-  every-media-report : ((d : Device) → Handed b d → (a : MediaAsked) → b .media-report d a .code ≡ 0 → ⊥) → RefusesOne b
-  every-line-test : ((d : Device) → Handed b d → (a : LineAsked) → b .line-test d a .code ≡ 0 → ⊥) → RefusesOne b
+      → ((d : Device) → Handed b d → (a : CommandAsked) → a .opcode ≡ opcode → Refused (b .command d a .answer .code)) → RefusesOne b
+  every-event-report : ((d : Device) → Handed b d → (a : EventAsked) → Refused (b .event-report d a .code)) → RefusesOne b
+  every-media-report : ((d : Device) → Handed b d → (a : MediaAsked) → Refused (b .media-report d a .code)) → RefusesOne b
+  every-line-test : ((d : Device) → Handed b d → (a : LineAsked) → Refused (b .line-test d a .code)) → RefusesOne b
 
 -- the reply of a command: as many bytes of the buffer after it as the answer's length says
 abbrev pub reply-of : CommandGiven → List ℕ
@@ -167,7 +169,7 @@ pub data TellsNothing (b : Build) : Type 0 where
       → reply-of (b .command d a) ≡ reply-of (b .command d c)) → TellsNothing b
   of-event-report : ((d e : Device) → Handed b d → Handed b e → (a : EventAsked) → b .event-report d a .stored ≡ b .event-report e a .stored) → TellsNothing b
   of-media-report : ((d e : Device) → Handed b d → Handed b e → (a : MediaAsked) → b .media-report d a .stored ≡ b .media-report e a .stored) → TellsNothing b
-  of-line-test : ((d e : Device) → Handed b d → Handed b e → (a : LineAsked) → answer-number (b .line-test d a .answer) ≡ answer-number (b .line-test e a .answer)) → TellsNothing b
+  of-line-test : ((d e : Device) → Handed b d → Handed b e → (a : LineAsked) → status-number (b .line-test d a .answer) ≡ status-number (b .line-test e a .answer)) → TellsNothing b
   of-event-status : ((d e : Device) → Handed b d → Handed b e → b .event-status d .bits ≡ b .event-status e .bits) → TellsNothing b
   of-damage-total : ((d e : Device) → Handed b d → Handed b e → b .damage-total d ≡ b .damage-total e) → TellsNothing b
 
@@ -177,9 +179,9 @@ pub record ChangesNothing (b : Build) : Type 0 where
   pub event-report : (d : Device) → Handed b d → (a : EventAsked) → b .event-report d a .device ≡ d
   pub media-report : (d : Device) → Handed b d → (a : MediaAsked) → b .media-report d a .device ≡ d
 
--- the commands that change a device: Clear Event Records, Set Event Interrupt Policy, Set Timestamp, Inject Poison, Clear Poison
+-- the commands that change a device: Clear Event Records, Set Event Interrupt Policy, Set Timestamp, Inject Poison, Clear Poison, Sanitize (document 02, W-207)
 abbrev pub changing : List ℕ
-changing = 0x0101 ∷ 0x0103 ∷ 0x0301 ∷ 0x4301 ∷ 0x4302 ∷ []
+changing = 0x0101 ∷ 0x0103 ∷ 0x0301 ∷ 0x4301 ∷ 0x4302 ∷ 0x4400 ∷ []
 
 -- less of a fault: one kind of call, be it only the commands of one of these opcodes, changes nothing that can be seen of a device
 pub data LeavesOne (b : Build) : Type 0 where

@@ -8,6 +8,7 @@ use Rattle.wire.specs.Wire.{le, field}
 use Rattle.poison.specs.Runs.{run}
 use Rattle.poison.specs.State.{Entry, entry}
 use Rattle.events.specs.Log.{log-at, handle-of}
+use Rattle.events.specs.Report.{stamped}
 use Rattle.events.specs.Get.{reply-bytes}
 use Rattle.events.specs.Clear.{clear-payload}
 use Rattle.events.specs.Drain.{more-bit, record-count}
@@ -144,12 +145,18 @@ cases =
     ∷ []
 
 -- ---- W-201 (document 02)
--- log 0 of a new device, read, after n events to it; and read, cleared of what that gave, after n events
+-- log 0 of a new device, read, after n events to it
 abbrev pub read-after : ℕ → Outcome
 read-after n = read (after new-unit (events n)) 0 0 zero-area 2048
 
-abbrev pub drained-after : ℕ → Outcome
-drained-after n = then-clear (after new-unit (events n)) 0 0 zero-area 2048 0 zero-area 2048
+-- what nine events leave: log 0 holds records 1 to 8, and one was counted (`nine-reached` of proofs/Cases.antt: calls lead there)
+abbrev pub nine : DeviceState
+nine =
+    with-logs new-unit (set (new-unit .logs) 0 (record { held = map (λ h. stamped (replicate 128 0) h 0) (1 ∷ 2 ∷ 3 ∷ 4 ∷ 5 ∷ 6 ∷ 7 ∷ 8 ∷ []); next = 9; overflow-count = 1; first-overflow = 0; last-overflow = 0 }))
+
+-- read, and cleared of what that gave
+abbrev pub drained : DeviceState → Outcome
+drained d = then-clear d 0 0 zero-area 2048 0 zero-area 2048
 
 -- what a host sees of a read: the number, the flags, the overflow count, the record count and the length of the reply
 abbrev pub seen : Outcome → List ℕ
@@ -166,11 +173,15 @@ drain-cases =
     ∷ case (seen (read-after 1)) (0 ∷ 0 ∷ 0 ∷ 1 ∷ 160 ∷ [])
     ∷ case (seen (read-after 8)) (0 ∷ 0 ∷ 0 ∷ 8 ∷ 1056 ∷ [])
     ∷ case (seen (read-after 9)) (0 ∷ 1 ∷ 1 ∷ 8 ∷ 1056 ∷ [])
-    -- read, clear what was read, read again: nothing is held, the overflow is forgotten; the next event has the next handle
-    ∷ case (drained-after 9 .code ∷ seen (read (drained-after 9 .next) 0 0 zero-area 2048)) (0 ∷ 0 ∷ 0 ∷ 0 ∷ 0 ∷ 32 ∷ [])
-    ∷ case (handles-of (after (drained-after 9 .next) (events 1))) (9 ∷ [])
     -- the rule over the number carried: with eight held More is set below eight carried, and clear from there on
     ∷ case (more-at 1 ∷ more-at 3 ∷ more-at 7 ∷ more-at 8 ∷ more-at 15 ∷ []) (1 ∷ 1 ∷ 1 ∷ 0 ∷ 0 ∷ [])
+    ∷ []
+
+-- read, clear what was read, read again: nothing is held, the overflow is forgotten; the next event has the next handle
+unfoldable pub drained-cases : List Case
+drained-cases =
+    case (drained nine .code ∷ seen (read (drained nine .next) 0 0 zero-area 2048)) (0 ∷ 0 ∷ 0 ∷ 0 ∷ 0 ∷ 32 ∷ [])
+    ∷ case (handles-of (after (drained nine .next) (events 1))) (9 ∷ [])
     ∷ []
 
 abbrev pub given-of : Case → List ℕ

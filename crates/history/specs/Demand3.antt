@@ -49,5 +49,5 @@ pub record Demand3 (made : DeviceState) (calls : List Call) (n : ℕ) (d : Devic
   pub dropped-flag : EverDropped made calls → d .poison .overflow ≡ true
   -- "The line test says Clean for no line in the paper set,": the call succeeds, and its answer is not Clean
   pub blocked : (k : ℕ) → p .set k ≡ true → Blocks d k
-  -- "and, while the flag is clear, for every other line of the device."
-  pub clean : d .poison .overflow ≡ false → (k : ℕ) → k < n → p .set k ≡ false → SaysClean d k
+  -- "and, while the flag is clear and media is enabled, for every other line of the device." (document 02, W-207)
+  pub clean : d .poison .overflow ≡ false → d .media .disabled ≡ false → (k : ℕ) → k < n → p .set k ≡ false → SaysClean d k

@@ -85,10 +85,10 @@ label-cases =
     ∷ case
     (lent-number 4095 0x7777 [] 2048 ∷ lent-number 4097 0x4102 (replicate 2049 0) 2048 ∷ lent-number 0 0x4102 [] 2048 ∷ lent-number 4095 0x0300 [] 2048 ∷ lent-number 4097 0x0300 [] 2047 ∷ lent-number 4096 0x0300 [] 2047 ∷ [])
     (replicate 6 0x100)
-    -- "Both join the effects log, 4103h with effect 6": 56 bytes, of which bytes 36 to 43 are theirs; a byte past the end is refused
-    ∷ case (outcome new-unit 0x0401 (effects-log-id ++ le 4 0 ++ le 4 56) 0 zero-area 2048 .code ∷ outcome new-unit 0x0401 (effects-log-id ++ le 4 0 ++ le 4 57) 0 zero-area 2048 .code ∷ []) (0 ∷ 2 ∷ [])
+    -- "Both join the effects log, 4103h with effect 6": 60 bytes with Sanitize (W-207), of which bytes 36 to 43 are theirs; a byte past the end is refused
+    ∷ case (outcome new-unit 0x0401 (effects-log-id ++ le 4 0 ++ le 4 60) 0 zero-area 2048 .code ∷ outcome new-unit 0x0401 (effects-log-id ++ le 4 0 ++ le 4 61) 0 zero-area 2048 .code ∷ []) (0 ∷ 2 ∷ [])
     ∷ case (outcome new-unit 0x0401 (effects-log-id ++ le 4 36 ++ le 4 8) 0 zero-area 2048 .reply) (2 ∷ 0x41 ∷ 0 ∷ 0 ∷ 3 ∷ 0x41 ∷ 6 ∷ 0 ∷ [])
-    ∷ case (field (outcome new-unit 0x0400 [] 0 zero-area 2048 .reply) 24 4 ∷ []) (56 ∷ [])
+    ∷ case (field (outcome new-unit 0x0400 [] 0 zero-area 2048 .reply) 24 4 ∷ []) (60 ∷ [])
     -- "Identify's label size becomes 4,096"
     ∷ case (field (outcome new-unit 0x4000 [] 0 zero-area 2048 .reply) 56 4 ∷ []) (label-size ∷ [])
     ∷ []

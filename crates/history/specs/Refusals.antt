@@ -5,6 +5,8 @@ use mathlib.Core.Bool.{false}
 use mathlib.Core.List.{[]}
 use Rattle.mailbox.specs.State.{DeviceState}
 use Rattle.commands.specs.Vector.{no-vector}
+use Rattle.commands.specs.Media.{due}
+use Rattle.mailbox.specs.Ending.{ended}
 use Rattle.mailbox.specs.Mailbox.{outcome}
 use Rattle.mailbox.specs.DeviceCalls as Device
 use Rattle.history.specs.Calls.{Call, command, event-report, media-report, line-test, event-status, damage-total}
@@ -17,3 +19,21 @@ GivesNothing d (media-report time address lines kind) = (Device.media-report d t
 GivesNothing d (line-test address) = (Device.line-test d address .number ≡ 2) × (Device.line-test d address .kind ≡ 0)
 GivesNothing d event-status = ⊥
 GivesNothing d damage-total = ⊥
+
+-- the device that a call finds: a command and a report end a due Sanitize first; a line test, event status and damage total carry no time and end nothing (document 02, W-207)
+abbrev pub found-by : DeviceState → Call → DeviceState
+found-by d (command opcode payload time area room) = ended d time
+found-by d (event-report time log bytes) = ended d time
+found-by d (media-report time address lines kind) = ended d time
+found-by d (line-test address) = d
+found-by d event-status = d
+found-by d damage-total = d
+
+-- no Sanitize is due at the call's time
+abbrev pub NothingDue : DeviceState → Call → Type 0
+NothingDue d (command opcode payload time area room) = due (d .media) time ≡ false
+NothingDue d (event-report time log bytes) = due (d .media) time ≡ false
+NothingDue d (media-report time address lines kind) = due (d .media) time ≡ false
+NothingDue d (line-test address) = Unit {0}
+NothingDue d event-status = Unit {0}
+NothingDue d damage-total = Unit {0}

@@ -28,12 +28,12 @@ use Rattle.host_requests.specs.Requests.{get-poison-list, opcode, payload}
 use Rattle.host.proofs.WalkReplies.{answer-refused, answer-taken}
 
 -- ---- a request
--- what asking ensures, from the device's answer to a payload that is the request's
-pub asked : (d : Device) (address n : ℕ) {bytes area before after : List ℕ} {r : Answer} → bytes ≡ payload (get-poison-list address n) → area ≡ zero-area
-    → Answered (outcome (state-of d) 0x4300 bytes 0 area (length before)) d r before after
+-- what asking ensures, from the device's answer to a payload that is the request's, on the device that the call finds (document 02, W-207: its lines and its list are those of the device)
+pub asked : (d : Device) (address n : ℕ) {found : Device} {bytes area before after : List ℕ} {r : Answer} → bytes ≡ payload (get-poison-list address n) → area ≡ zero-area
+    → Answered (outcome (state-of d) 0x4300 bytes 0 area (length before)) found r before after
     → Writes (range-answer d address n (length before)) (record { code = r .code; length = r .length }) before after
 unfolding opcode
-asked d address n {bytes} {area} {before} {after} {r} e z w =
+asked d address n {found} {bytes} {area} {before} {after} {r} e z w =
     let f : outcome (state-of d) 0x4300 bytes 0 area (length before) ≡ outcome (state-of d) 0x4300 (payload (get-poison-list address n)) 0 zero-area (length before)
     = ap₂ (λ (l k : List ℕ). outcome (state-of d) 0x4300 l 0 k (length before)) e z in
     record {

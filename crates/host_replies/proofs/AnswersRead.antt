@@ -1,5 +1,6 @@
 -- Whatever command the device answers with Success, the host's reading of the reply accepts it, and gives what the device's definitions say (document 02, W-202).
--- Over any device whose numbers have their widths (`Plain`), any opcode, payload, time and room. Assumes nothing.
+-- Over any device whose numbers have their widths (`Plain`), any opcode, payload, time and room. The logs told of are those of the device that the command finds: a due Sanitize is ended first (document 02,
+-- W-207). Assumes nothing.
 use mathlib.Core.Path.{_≡_, refl, sym, ap, _∙_}
 use mathlib.Core.Bool.{Bool, true, false, cond}
 use mathlib.Core.List.{List, [], _++_}
@@ -16,6 +17,7 @@ use Rattle.events.specs.Log.{log-at}
 use Rattle.events.proofs.Laws.{read-log as log-read}
 use Rattle.commands.specs.Numbers.{mailbox-size, event-records}
 use Rattle.mailbox.specs.State.{DeviceState, lines-of}
+use Rattle.mailbox.specs.Ending.{ended}
 use Rattle.commands.specs.Reply.{no-reply, replied as replied-bytes}
 use Rattle.mailbox.specs.Outcome.{Outcome, changes}
 use Rattle.commands.specs.Commands.{commands}
@@ -43,6 +45,7 @@ use Rattle.wire.proofs.Splice.{number-read}
 use Rattle.host_replies.proofs.Accepted.{policy-taken, time-taken, log-taken, nothing-taken}
 use Rattle.host_replies.proofs.Rereading.{logs-reread, identity-reads}
 use Rattle.host_replies.proofs.DeviceReplies.{log-holds, list-holds}
+use Rattle.host_replies.proofs.PlainDevices.{plain-ended}
 
 -- ---- the replies of no count, and that of Get Supported Logs
 -- the device time has 64 bits
@@ -56,7 +59,7 @@ time-holds d time =
     time-taken (le 8 (device-time (d .clock) time)) (length-le 8 (device-time (d .clock) time))
     ∙ ap (λ (x : ℕ). record { code = 0; time = x }) (number-read 8 (device-time (d .clock) time) (time-small d time))
 
--- one log, the Command Effects Log, of 56 bytes
+-- one log, the Command Effects Log
 logs-writable : writing-verdict SupportedLogs 1 (effects-log-id ++ le 4 effects-log-size) 28 .code ≡ 0
 unfolding writing-verdict header-size record-size first-reserved reserved effects-log-id le
 logs-writable = refl
@@ -80,7 +83,7 @@ identity-holds volatile persistent small = identity-reads (Told.identity-told vo
 
 -- ---- a reply given with number 0 is the one that its definition has
 module _ (p : List ℕ) where
-  effects-long : length effects-log ≡ 56
+  effects-long : length effects-log ≡ effects-log-size
   unfolding effects-log commands le
   effects-long = refl
 
@@ -116,13 +119,8 @@ module _ (p : List ℕ) where
       go true q z = refl
       go false q z = absurd (eqb-false code 0 q z)
 
--- ---- commands answered with Success
-module _ (d : DeviceState) (plain : Plain d) (p : List ℕ) (time : ℕ) (area : List ℕ) (room : ℕ) where
-  -- what holds of the reply of the opcode's command holds of the answer's
-  answered : (op : ℕ) (P : List ℕ → Type 0) → (run-command d op p time area .code ≡ 0 → P (run-command d op p time area .reply)) → outcome d op p time area room .code ≡ 0
-      → P (outcome d op p time area room .reply)
-  answered op P f z = let r = accepted-runs d op p time area room z in rw r (f (sym (ap (λ (o : Outcome). o .code) r) ∙ z))
-
+-- ---- the commands, on the device that they find
+module _ (d : DeviceState) (plain : Plain d) (p : List ℕ) (time : ℕ) (area : List ℕ) where
   events-given : get-event-records (d .logs) p .code ≡ 0 → EventsTold d p (get-event-records (d .logs) p .bytes)
   unfolding get-event-records
   events-given z =
@@ -137,35 +135,6 @@ module _ (d : DeviceState) (plain : Plain d) (p : List ℕ) (time : ℕ) (area :
 
   range-given : get-poison-list (lines-of d) (d .poison) p .code ≡ 0 → ListTold d p (get-poison-list (lines-of d) (d .poison) p .bytes)
   range-given z = rw (list-given p (lines-of d) (d .poison) z) (list-holds (d .poison) (plain .list) (line-of (field p 0 8)) (field p 8 8))
-
-  -- THE THEOREM of the fields, a command each: on Success the reply tells what the device's definitions say.
-  pub events-told : outcome d 0x0100 p time area room .code ≡ 0 → EventsTold d p (outcome d 0x0100 p time area room .reply)
-  unfolding run-command
-  events-told = answered 0x0100 (EventsTold d p) events-given
-
-  pub policy-told : outcome d 0x0102 p time area room .code ≡ 0 → PolicyTold d (outcome d 0x0102 p time area room .reply)
-  unfolding run-command get-policy
-  policy-told = answered 0x0102 (PolicyTold d) (λ z. policy-taken (d .policy) (plain .policy))
-
-  pub time-told : outcome d 0x0300 p time area room .code ≡ 0 → TimeTold d time (outcome d 0x0300 p time area room .reply)
-  unfolding run-command
-  time-told = answered 0x0300 (TimeTold d time) (λ z. time-holds d time)
-
-  pub logs-told : outcome d 0x0400 p time area room .code ≡ 0 → LogsTold (outcome d 0x0400 p time area room .reply)
-  unfolding run-command
-  logs-told = answered 0x0400 LogsTold (λ z. logs-given)
-
-  pub log-told : outcome d 0x0401 p time area room .code ≡ 0 → LogTold p (outcome d 0x0401 p time area room .reply)
-  unfolding run-command
-  log-told = answered 0x0401 (LogTold p) part-given
-
-  pub identity-told : outcome d 0x4000 p time area room .code ≡ 0 → IdentityTold d (outcome d 0x4000 p time area room .reply)
-  unfolding run-command
-  identity-told = answered 0x4000 (IdentityTold d) (λ z. identity-holds (d .volatile) (d .persistent) (plain .units))
-
-  pub list-told : outcome d 0x4300 p time area room .code ≡ 0 → ListTold d p (outcome d 0x4300 p time area room .reply)
-  unfolding run-command
-  list-told = answered 0x4300 (ListTold d p) range-given
 
   -- ---- every opcode
   -- an outcome whose reply a reading accepts, if its number is 0
@@ -185,6 +154,7 @@ module _ (d : DeviceState) (plain : Plain d) (p : List ℕ) (time : ℕ) (area :
   unfolding inject
   injection-silent = either (Accepts read-nothing) (inject-adds (lines-of d) (d .poison) p) (record { accepts = λ z. nothing-taken [] refl }) (silent _ _)
 
+  -- Sanitize is never answered Success (document 02, W-207: 0001h)
   run-accepts : (op : ℕ) → eqb op 0x4102 ≡ false → eqb op 0x4103 ≡ false → Accepts (reading-code op (log-length p)) (run-command d op p time area)
   unfolding reading-code run-command clear-event-records get-policy
   run-accepts op i j =
@@ -201,11 +171,55 @@ module _ (d : DeviceState) (plain : Plain d) (p : List ℕ) (time : ℕ) (area :
       (choice (eqb op 0x4300) (record { accepts = λ z. ap (λ (r : ListRead). r .code) (range-given z .fields) })
       (choice (eqb op 0x4301) injection-silent
       (choice (eqb op 0x4302) (silent _ _)
-      (record { accepts = λ z. absurd (omega arith) })))))))))))))
+      (either (Accepts _) (eqb op 0x4400) (record { accepts = λ z. absurd (omega arith) })
+      (record { accepts = λ z. absurd (omega arith) }))))))))))))))
+
+-- ---- commands answered with Success
+module _ (d : DeviceState) (plain : Plain d) (p : List ℕ) (time : ℕ) (area : List ℕ) (room : ℕ) where
+  abbrev found : DeviceState
+  found = ended d time
+
+  still : Plain found
+  still = plain-ended d time plain
+
+  -- what holds of the reply of the opcode's command holds of the answer's
+  answered : (op : ℕ) (P : List ℕ → Type 0) → (run-command found op p time area .code ≡ 0 → P (run-command found op p time area .reply)) → outcome d op p time area room .code ≡ 0
+      → P (outcome d op p time area room .reply)
+  answered op P f z = let r = accepted-runs found op p time area room z in rw r (f (sym (ap (λ (o : Outcome). o .code) r) ∙ z))
+
+  -- THE THEOREM of the fields, a command each: on Success the reply tells what the device's definitions say.
+  pub events-told : outcome d 0x0100 p time area room .code ≡ 0 → EventsTold (ended d time) p (outcome d 0x0100 p time area room .reply)
+  unfolding run-command
+  events-told = answered 0x0100 (EventsTold found p) (events-given found still p time area)
+
+  pub policy-told : outcome d 0x0102 p time area room .code ≡ 0 → PolicyTold d (outcome d 0x0102 p time area room .reply)
+  unfolding run-command get-policy
+  policy-told = answered 0x0102 (PolicyTold d) (λ z. policy-taken (d .policy) (plain .policy))
+
+  pub time-told : outcome d 0x0300 p time area room .code ≡ 0 → TimeTold d time (outcome d 0x0300 p time area room .reply)
+  unfolding run-command
+  time-told = answered 0x0300 (TimeTold d time) (λ z. time-holds d time)
+
+  pub logs-told : outcome d 0x0400 p time area room .code ≡ 0 → LogsTold (outcome d 0x0400 p time area room .reply)
+  unfolding run-command
+  logs-told = answered 0x0400 LogsTold (λ z. logs-given found still p time area)
+
+  pub log-told : outcome d 0x0401 p time area room .code ≡ 0 → LogTold p (outcome d 0x0401 p time area room .reply)
+  unfolding run-command
+  log-told = answered 0x0401 (LogTold p) (part-given found still p time area)
+
+  pub identity-told : outcome d 0x4000 p time area room .code ≡ 0 → IdentityTold d (outcome d 0x4000 p time area room .reply)
+  unfolding run-command
+  identity-told = answered 0x4000 (IdentityTold d) (λ z. identity-holds (d .volatile) (d .persistent) (plain .units))
+
+  pub list-told : outcome d 0x4300 p time area room .code ≡ 0 → ListTold d p (outcome d 0x4300 p time area room .reply)
+  unfolding run-command
+  list-told = answered 0x4300 (ListTold d p) (range-given found still p time area)
 
 -- THE THEOREM of acceptance: every reply that the device gives on Success, to any opcode but those of the label area (the library reads the replies of document 01's twelve commands), is accepted by
 -- the reading of that opcode's reply.
 pub accepted : (d : DeviceState) → Plain d → (op : ℕ) → (op ≡ 0x4102 → ⊥) → (op ≡ 0x4103 → ⊥) → (p : List ℕ) (time : ℕ) (area : List ℕ) (room : ℕ) → outcome d op p time area room .code ≡ 0
     → reading-code op (field p 20 4) (outcome d op p time area room .reply) ≡ 0
 accepted d plain op f g p time area room =
-    answered d plain p time area room op (λ (bs : List ℕ). reading-code op (log-length p) bs ≡ 0) (run-accepts d plain p time area room op (ne-eqb op 0x4102 f) (ne-eqb op 0x4103 g) .accepts)
+    answered d plain p time area room op (λ (bs : List ℕ). reading-code op (log-length p) bs ≡ 0)
+    (run-accepts (ended d time) (plain-ended d time plain) p time area op (ne-eqb op 0x4102 f) (ne-eqb op 0x4103 g) .accepts)

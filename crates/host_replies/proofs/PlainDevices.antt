@@ -1,13 +1,18 @@
--- Devices whose numbers have the widths of document 01's fields (`Plain`): a new one is such a device; and of a list in order on the largest device, each of its entries
+-- Devices whose numbers have the widths of document 01's fields (`Plain`): a new one is such a device, and so is the one that a call finds on such a device; and of a list in order on the largest device, each of its entries
 -- can be put in a record. Assumes nothing.
 use mathlib.Core.Path.{refl, sym, subst}
-use mathlib.Core.List.{List, [], _∷_}
-use Prim.Native.Nat.{ℕ, _+_, _^_, _≤_, _<_}
+use mathlib.Core.Bool.{Bool, true, false}
+use mathlib.Core.List.{List, [], _∷_, map}
+use Prim.Native.Nat.{ℕ, zero, suc, _+_, _^_, _≤_, _<_}
 use native.Mathlib.Omega.{arith}
 use lib.ListN.{getD-replicate}
 use Rattle.poison.specs.Runs.{end, Chain}
 use Rattle.poison.specs.State.{Entry, shape, shapes, capacity, Typed}
-use Rattle.events.specs.Log.{new, no-log}
+use Rattle.events.specs.Log.{LogState, new, no-log, log-at}
+use Rattle.events.specs.Emptied.{emptied}
+use Rattle.commands.specs.Media.{due}
+use Rattle.mailbox.specs.State.{DeviceState}
+use Rattle.mailbox.specs.Ending.{ended, logs-left}
 use Rattle.mailbox.specs.DeviceCalls.{new-device}
 use Rattle.host_replies.specs.DeviceReplies.{PlainLog, Recordable, Plain}
 use Rattle.poison.proofs.Laws.{chain-length}
@@ -18,14 +23,33 @@ recordable lo hi (e ∷ es) c h t =
     let l = chain-length (end (shape e)) hi es (c .2) in
     (omega arith, t .0, recordable (end (shape e)) hi es (c .2) h (t .1))
 
-plain-log : PlainLog new
-plain-log = record { size = λ i l. absurd (omega arith); overflow = omega arith; first = omega arith; last = omega arith }
+plain-log : (s : LogState) → PlainLog (emptied s)
+plain-log s = record { size = λ i l. absurd (omega arith); overflow = omega arith; first = omega arith; last = omega arith }
 
 pub plain-new : (volatile persistent : ℕ) → volatile + persistent < 256 ^ 8 → Plain (new-device volatile persistent)
 plain-new volatile persistent small =
     record {
       units = small;
       policy = refl;
-      logs = λ k l. subst PlainLog (sym (getD-replicate 5 k new no-log l)) plain-log;
+      logs = λ k l. subst PlainLog (sym (getD-replicate 5 k new no-log l)) (plain-log new);
       list = record { time = omega arith; entries = tt };
     }
+
+plain-logs : (ls : List LogState) (k : ℕ) → PlainLog (log-at (map emptied ls) k)
+plain-logs [] k = plain-log no-log
+plain-logs (s ∷ ls) zero = plain-log s
+plain-logs (s ∷ ls) (suc k) = plain-logs ls k
+
+-- where a due Sanitize is ended, its logs are emptied (document 02, W-207)
+pub plain-ended : (d : DeviceState) (time : ℕ) → Plain d → Plain (ended d time)
+plain-ended d time p =
+    record {
+      units = p .units;
+      policy = p .policy;
+      logs = λ k l. by-end (due (d .media) time) k l;
+      list = p .list;
+    }
+  where
+    by-end : (b : Bool) (k : ℕ) → k < 5 → PlainLog (log-at (logs-left b (d .logs)) k)
+    by-end true k l = plain-logs (d .logs) k
+    by-end false k l = p .logs k l

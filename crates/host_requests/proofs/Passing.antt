@@ -15,6 +15,7 @@ use Rattle.events.proofs.Laws.{NothingReserved, payload-length, payload-reserve
 use Rattle.labels.specs.Labels.{label-size}
 use Rattle.commands.specs.Numbers.{mailbox-size}
 use Rattle.mailbox.specs.State.{DeviceState, with-policy}
+use Rattle.mailbox.specs.Ending.{ended}
 use Rattle.mailbox.specs.Outcome.{changes, refused}
 use Rattle.commands.specs.Policy.{set-policy}
 use Rattle.mailbox.specs.Mailbox.{outcome}
@@ -41,13 +42,14 @@ module _ (log flags : ℕ) (handles : List ℕ) (low : flags ≤ 1) where
   -- so that the device refuses it for its log, for Clear All or for its handles, as document 01 has it, and for nothing else.
   pub clear-passes : countable request ≡ true → Widths request → (d : DeviceState) (time : ℕ) (area : List ℕ) → length area ≡ label-size → (room : ℕ) → mailbox-size ≤ room
       → outcome d (opcode request) (payload request) time area room
-      ≡ need (ltb log 5) (refused invalid-input d) (cleared d log (clearing (log-at (d .logs) log) (all-flag flags) handles))
+      ≡ need (ltb log 5) (refused invalid-input (ended d time)) (cleared (ended d time) log (clearing (log-at (ended d time .logs) log) (all-flag flags) handles))
   unfolding meant
   clear-passes few widths d time area sized room fits = taken request few widths .outcome d time area sized room fits ∙ rw (eq-eqb (other-flags flags) 0 none-set)
 
 -- ---- Set Event Interrupt Policy of four or five bytes with modes 0 and 1: Success, and the settings are made
 pub settings-pass : (settings : List ℕ) → countable (set-event-interrupt-policy settings) ≡ true → ((i : ℕ) → i < length settings → getD settings i 0 % 4 < 2)
     → (d : DeviceState) (time : ℕ) (area : List ℕ) → length area ≡ label-size → (room : ℕ) → mailbox-size ≤ room
-    → outcome d (opcode (set-event-interrupt-policy settings)) (payload (set-event-interrupt-policy settings)) time area room ≡ changes success (with-policy d (set-policy (d .policy) settings))
+    → outcome d (opcode (set-event-interrupt-policy settings)) (payload (set-event-interrupt-policy settings)) time area room
+    ≡ changes success (with-policy (ended d time) (set-policy (d .policy) settings))
 unfolding meant
 settings-pass settings few each d time area sized room fits = taken (set-event-interrupt-policy settings) few tt .outcome d time area sized room fits ∙ rw (modes-known settings each)

@@ -1,5 +1,5 @@
 -- A request built and then taken by the device is the one meant (document 02, W-202): its payload passes the checks before a command's own, the device's own
--- definitions read the fields given out of it, and the outcome on any device is that of the request by its fields. Assumes nothing.
+-- definitions read the fields given out of it, and the outcome on any device is that of the request by its fields, on the device that the call finds (document 02, W-207). Assumes nothing.
 use mathlib.Core.Path.{_≡_, refl, sym, ap, ap₂, _∙_}
 use mathlib.Core.Bool.{Bool, true, false, not, _&&_, _||_, cond}
 use mathlib.Core.List.{List, [], _++_}
@@ -11,7 +11,7 @@ use lib.ListN.{length, take, drop, getD, length-append}
 use lib.Seq.{take-at}
 use borrow.Author.Tests.{le-leb, leb-true, eq-eqb, ne-eqb, eqb-true}
 use Rattle.wire.specs.Wire.{le, splice}
-use Rattle.wire.specs.Returns.{success, invalid-input, invalid-length, small-buffer, need}
+use Rattle.wire.specs.Returns.{success, invalid-input, media-disabled, invalid-length, small-buffer, need}
 use Rattle.wire.proofs.Laws.{length-le, part-whole}
 use Rattle.wire.proofs.Splice.{field-front, field-past, number-read, part-front, part-past}
 use Rattle.events.specs.Log.{LogState, log-at}
@@ -22,10 +22,11 @@ use Rattle.events.proofs.Laws.{payload-length, payload-log, payload-flags, payl
 use Rattle.labels.specs.Labels.{label-size}
 use Rattle.commands.specs.Numbers.{mailbox-size, event-records}
 use Rattle.mailbox.specs.State.{DeviceState, lines-of, with-policy, with-logs, with-poison}
+use Rattle.mailbox.specs.Ending.{ended}
 use Rattle.commands.specs.Policy.{known-modes, set-policy, set-interrupt-policy}
 use Rattle.commands.specs.Reply.{replied, no-reply}
-use Rattle.mailbox.specs.Outcome.{reads, changes, refused}
-use Rattle.commands.specs.Commands.{commands, admission}
+use Rattle.mailbox.specs.Outcome.{Outcome, reads, changes, refused}
+use Rattle.commands.specs.Commands.{commands, admission, while-disabled, blocked}
 use Rattle.commands.specs.Clock as Clock
 use Rattle.mailbox.specs.EventCommands as Events
 use Rattle.commands.specs.EffectsLog as Logs
@@ -36,9 +37,10 @@ use Rattle.poison.specs.Runs.{slots}
 use Rattle.poison.specs.State.{PoisonState, covers}
 use Rattle.poison.specs.Inject.{with-entry}
 use Rattle.poison.specs.Clear.{after-clear}
-use Rattle.mailbox.specs.DeviceCalls.{EventOutcome, event-report}
-use Rattle.mailbox.specs.Mailbox.{changes-policy, changes-list, reports, inject, run-command, outcome}
-use Rattle.mailbox.proofs.Laws.{admitted-runs, clear-events-admitted}
+use Rattle.mailbox.specs.DeviceCalls.{EventOutcome, event-answer}
+use Rattle.mailbox.specs.Mailbox.{changes-policy, changes-list, reports, inject, run-command, answer}
+use Rattle.commands.proofs.Laws.{first-admitted}
+use Rattle.mailbox.proofs.Laws.{allowed-runs, clear-events-admitted}
 use Rattle.wire.specs.declared.done.Done.{Done}
 use Rattle.wire.specs.Done.{Written, Writes, written}
 use Rattle.wire.specs.Done as Room
@@ -46,16 +48,38 @@ use Rattle.host_requests.specs.Requests.{Request, opcode, payload, count
 use Rattle.host_requests.specs.Requests as Q
 use Rattle.host_requests.specs.Meant.{meant, FieldsRead, Widths, Taken, cleared, clearing, clearing-code}
 
--- a request whose payload passes the checks and which the command takes as it is meant
-taking : (q : Request) → ((room : ℕ) → mailbox-size ≤ room → admission (opcode q) (length (payload q)) label-size room ≡ 0) → FieldsRead q (payload q)
-    → ((d : DeviceState) (time : ℕ) (area : List ℕ) → run-command d (opcode q) (payload q) time area ≡ meant q d time) → Taken q
-taking q a f r =
+-- a request whose payload passes the checks of document 01's order, and which the device that it finds answers as it is meant
+answering : (q : Request) → ((room : ℕ) → mailbox-size ≤ room → admission (opcode q) (length (payload q)) label-size room ≡ 0) → FieldsRead q (payload q)
+    → ((d : DeviceState) (time : ℕ) (area : List ℕ) (room : ℕ) → admission (opcode q) (length (payload q)) (length area) room ≡ 0
+    → answer d (opcode q) (payload q) time area room ≡ meant q d time)
+    → Taken q
+answering q a f r =
     record {
       admitted = a;
       fields = f;
-      outcome = λ d time area sized room h.
-          admitted-runs d (opcode q) (payload q) time area room (ap (λ (n : ℕ). admission (opcode q) (length (payload q)) n room) sized ∙ a room h) ∙ r d time area;
+      outcome = λ d time area sized room h. r (ended d time) time area room (ap (λ (n : ℕ). admission (opcode q) (length (payload q)) n room) sized ∙ a room h);
     }
+
+-- one that media disabled allows, and which the command takes as it is meant
+taking : (q : Request) → while-disabled (opcode q) ≡ 0 → ((room : ℕ) → mailbox-size ≤ room → admission (opcode q) (length (payload q)) label-size room ≡ 0) → FieldsRead q (payload q)
+    → ((d : DeviceState) (time : ℕ) (area : List ℕ) → run-command d (opcode q) (payload q) time area ≡ meant q d time) → Taken q
+taking q free a f r = answering q a f (λ d time area room z. allowed-runs d (opcode q) (payload q) time area room free z ∙ r d time area)
+
+-- 0007h while media is disabled (document 02, W-207), else the outcome
+abbrev if-enabled : DeviceState → Outcome → Outcome
+if-enabled d o = need (not (d .media .disabled)) (refused media-disabled d) o
+
+-- one that gets 0007h so, and which else the command takes as it is meant
+taking-enabled : (q : Request) → while-disabled (opcode q) ≡ media-disabled → ((room : ℕ) → mailbox-size ≤ room → admission (opcode q) (length (payload q)) label-size room ≡ 0)
+    → FieldsRead q (payload q)
+    → ((d : DeviceState) (time : ℕ) (area : List ℕ) → if-enabled d (run-command d (opcode q) (payload q) time area) ≡ meant q d time) → Taken q
+unfolding answer
+taking-enabled q bars a f r = answering q a f (λ d time area room z. rw (sym (first-admitted (d .media .disabled) (opcode q) (length (payload q)) (length area) room z)) (by-media d _ (d .media .disabled)) ∙ r d time area)
+  where
+    by-media : (d : DeviceState) (o : Outcome) (disabled : Bool)
+        → need (eqb (blocked disabled (opcode q)) 0) (refused (blocked disabled (opcode q)) d) o ≡ need (not disabled) (refused media-disabled d) o
+    by-media d o true = rw bars
+    by-media d o false = refl
 
 -- ---- Get Event Records
 abbrev got : Bool → List ℕ → Get.GetOutcome
@@ -66,33 +90,33 @@ got-meant true x d = refl
 got-meant false x d = refl
 
 get-taken : (log : ℕ) → log < 256 → Taken (Q.get-event-records log)
-unfolding opcode payload admission commands run-command Events.get-event-records Get.get-event-records Get.get-code meant le
+unfolding opcode payload admission commands while-disabled run-command Events.get-event-records Get.get-event-records Get.get-code meant le
 get-taken log small =
     let e : log % 256 ≡ log = omega arith in
-    taking (Q.get-event-records log) (λ room h. rw (le-leb mailbox-size room h)) e (λ d time area. rw e (got-meant (ltb log 5) (Get.reply-bytes event-records (log-at (d .logs) log)) d))
+    taking (Q.get-event-records log) refl (λ room h. rw (le-leb mailbox-size room h)) e (λ d time area. rw e (got-meant (ltb log 5) (Get.reply-bytes event-records (log-at (d .logs) log)) d))
 
 -- ---- requests with no payload
 plain-policy : Taken Q.get-event-interrupt-policy
-unfolding opcode payload admission commands run-command meant
-plain-policy = taking Q.get-event-interrupt-policy (λ room h. rw (le-leb mailbox-size room h)) refl (λ d time area. refl)
+unfolding opcode payload admission commands while-disabled run-command meant
+plain-policy = taking Q.get-event-interrupt-policy refl (λ room h. rw (le-leb mailbox-size room h)) refl (λ d time area. refl)
 
 plain-time : Taken Q.get-timestamp
-unfolding opcode payload admission commands run-command meant
-plain-time = taking Q.get-timestamp (λ room h. rw (le-leb mailbox-size room h)) refl (λ d time area. refl)
+unfolding opcode payload admission commands while-disabled run-command meant
+plain-time = taking Q.get-timestamp refl (λ room h. rw (le-leb mailbox-size room h)) refl (λ d time area. refl)
 
 plain-logs : Taken Q.get-supported-logs
-unfolding opcode payload admission commands run-command meant
-plain-logs = taking Q.get-supported-logs (λ room h. rw (le-leb mailbox-size room h)) refl (λ d time area. refl)
+unfolding opcode payload admission commands while-disabled run-command meant
+plain-logs = taking Q.get-supported-logs refl (λ room h. rw (le-leb mailbox-size room h)) refl (λ d time area. refl)
 
 plain-identify : Taken Q.identify
-unfolding opcode payload admission commands run-command meant
-plain-identify = taking Q.identify (λ room h. rw (le-leb mailbox-size room h)) refl (λ d time area. refl)
+unfolding opcode payload admission commands while-disabled run-command meant
+plain-identify = taking Q.identify refl (λ room h. rw (le-leb mailbox-size room h)) refl (λ d time area. refl)
 
 -- ---- one number
 set-time-taken : (value : ℕ) → value < 256 ^ 8 → Taken (Q.set-timestamp value)
-unfolding opcode payload admission commands run-command meant Clock.set-timestamp
+unfolding opcode payload admission commands while-disabled run-command meant Clock.set-timestamp
 set-time-taken value small =
-    taking (Q.set-timestamp value) (λ room h. rw (length-le 8 value, le-leb mailbox-size room h)) (number-read 8 value small)
+    taking (Q.set-timestamp value) refl (λ room h. rw (length-le 8 value, le-leb mailbox-size room h)) (number-read 8 value small)
     (λ d time area. rw (number-read 8 value small))
 
 -- ---- settings
@@ -103,9 +127,9 @@ set-meant true new d = refl
 set-meant false new d = refl
 
 settings-taken : (settings : List ℕ) → countable (Q.set-event-interrupt-policy settings) ≡ true → Taken (Q.set-event-interrupt-policy settings)
-unfolding opcode payload admission commands run-command set-interrupt-policy meant countable
+unfolding opcode payload admission commands while-disabled run-command set-interrupt-policy meant countable
 settings-taken settings c =
-    taking (Q.set-event-interrupt-policy settings) (λ room h. go room h (ℕ-discrete (length settings) 4)) refl
+    taking (Q.set-event-interrupt-policy settings) refl (λ room h. go room h (ℕ-discrete (length settings) 4)) refl
     (λ d time area. set-meant (known-modes settings) (set-policy (d .policy) settings) d)
   where
     go : (room : ℕ) → mailbox-size ≤ room → Dec (length settings ≡ 4) → admission 0x0103 (length settings) label-size room ≡ 0
@@ -122,11 +146,11 @@ log-fields id offset size e ho hs = (
 )
 
 log-taken : (id : List ℕ) (offset size : ℕ) → length id ≡ 16 → offset < 256 ^ 4 → size < 256 ^ 4 → Taken (Q.get-log id offset size)
-unfolding opcode payload admission commands run-command meant Logs.get-log
+unfolding opcode payload admission commands while-disabled run-command meant Logs.get-log
 log-taken id offset size e ho hs =
     let f = log-fields id offset size e ho hs in
     let l : length (id ++ le 4 offset ++ le 4 size) ≡ 24 = simp (length-append, length-le) (omega arith) in
-    taking (Q.get-log id offset size) (λ room h. rw (l, le-leb mailbox-size room h)) f (λ d time area. rw (f .0, f .1, f .2))
+    taking (Q.get-log id offset size) refl (λ room h. rw (l, le-leb mailbox-size room h)) f (λ d time area. rw (f .0, f .1, f .2))
 
 -- ---- the poison commands
 list-fields : (address lines : ℕ) → address < 256 ^ 8 → lines < 256 ^ 8 → FieldsRead (Q.get-poison-list address lines) (payload (Q.get-poison-list address lines))
@@ -135,11 +159,11 @@ list-fields address lines ha hl =
     (field-front 0 8 (le 8 address) (le 8 lines) (simp length-le (omega arith)) ∙ number-read 8 address ha, field-past 0 8 8 (le 8 address) (le 8 lines) (simp length-le) ∙ number-read 8 lines hl)
 
 list-taken : (address lines : ℕ) → address < 256 ^ 8 → lines < 256 ^ 8 → Taken (Q.get-poison-list address lines)
-unfolding opcode payload admission commands run-command meant Poison.get-poison-list
+unfolding opcode payload admission commands while-disabled run-command meant Poison.get-poison-list
 list-taken address lines ha hl =
     let f = list-fields address lines ha hl in
     let l : length (le 8 address ++ le 8 lines) ≡ 16 = simp (length-append, length-le) in
-    taking (Q.get-poison-list address lines) (λ room h. rw (l, le-leb mailbox-size room h)) f (λ d time area. rw (f .0, f .1))
+    taking (Q.get-poison-list address lines) refl (λ room h. rw (l, le-leb mailbox-size room h)) f (λ d time area. rw (f .0, f .1))
 
 -- the tests of the definition and of what is meant are the same: an injection, where x is the list with the line's entry added, v says that the line is covered, w that
 -- there is room for an entry and z that the line's checks pass, and e reports the event
@@ -153,14 +177,15 @@ inject-meant d c x e false true true = refl
 inject-meant d c x e false false true = refl
 
 inject-taken : (address : ℕ) → address < 256 ^ 8 → Taken (Q.inject-poison address)
-unfolding opcode payload admission commands run-command meant inject Poison.inject-poison Poison.inject-adds
+unfolding opcode payload admission commands while-disabled run-command meant inject Poison.inject-poison Poison.inject-adds
 inject-taken address ha =
     let f = number-read 8 address ha in
     let k = Poison.line-of address in
-    taking (Q.inject-poison address) (λ room h. rw (length-le 8 address, le-leb mailbox-size room h)) f
+    taking-enabled (Q.inject-poison address) refl (λ room h. rw (length-le 8 address, le-leb mailbox-size room h)) f
     (λ d time area. rw f
-    (inject-meant d (Poison.line-code (lines-of d) address) (with-entry (d .poison) k) (λ (y : DeviceState). event-report y time 0 (Poison.injection-record address))
-    (covers (d .poison .entries) k) (ltb (length (d .poison .entries)) slots) (eqb (Poison.line-code (lines-of d) address) 0)))
+    (ap (if-enabled d)
+    (inject-meant d (Poison.line-code (lines-of d) address) (with-entry (d .poison) k) (λ (y : DeviceState). event-answer y time 0 (Poison.injection-record address))
+    (covers (d .poison .entries) k) (ltb (length (d .poison .entries)) slots) (eqb (Poison.line-code (lines-of d) address) 0))))
 
 clear-meant : (d : DeviceState) (c k t : ℕ) (z : Bool) → z ≡ eqb c 0
     → changes-list d (need z (record { code = c; list = d .poison }) (record { code = 0; list = after-clear (d .poison) k t }))
@@ -174,12 +199,12 @@ clear-fields address bs ha e =
     (field-front 0 8 (le 8 address) bs (simp length-le (omega arith)) ∙ number-read 8 address ha, part-past 0 64 8 (le 8 address) bs (simp length-le) ∙ part-whole 64 bs e)
 
 poison-taken : (address : ℕ) (bs : List ℕ) → address < 256 ^ 8 → length bs ≡ 64 → Taken (Q.clear-poison address bs)
-unfolding opcode payload admission commands run-command meant Poison.clear-poison
+unfolding opcode payload admission commands while-disabled run-command meant Poison.clear-poison
 poison-taken address bs ha e =
     let f = clear-fields address bs ha e in
     let l : length (le 8 address ++ bs) ≡ 72 = simp (length-append, length-le) (omega arith) in
-    taking (Q.clear-poison address bs) (λ room h. rw (l, le-leb mailbox-size room h)) f
-    (λ d time area. rw (f .0) (clear-meant d (Poison.line-code (lines-of d) address) (Poison.line-of address) (device-time (d .clock) time) _ refl))
+    taking-enabled (Q.clear-poison address bs) refl (λ room h. rw (l, le-leb mailbox-size room h)) f
+    (λ d time area. rw (f .0) (ap (if-enabled d) (clear-meant d (Poison.line-code (lines-of d) address) (Poison.line-of address) (device-time (d .clock) time) _ refl)))
 
 -- ---- Clear Event Records
 module _ (log flags : ℕ) (hs : List ℕ) (hl : log < 256) (hf : flags < 256) (small : (i : ℕ) → i < length hs → getD hs i 0 < 65536) (few : length hs ≤ 255) where
@@ -223,10 +248,10 @@ module _ (log flags : ℕ) (hs : List ℕ) (hl : log < 256) (hf : flags < 256) (
       (by-number d (eqb (other-flags flags) 0) (ltb log 5) (clearing (log-at (d .logs) log) (all-flag flags) hs) (clear-code built) checks-meant)
 
   events-taken : Taken (Q.clear-event-records log flags hs)
-  unfolding opcode payload
+  unfolding opcode payload while-disabled
   events-taken =
       let L = payload-length log flags hs in
-      taking (Q.clear-event-records log flags hs) (λ room h. clear-events-admitted (length built) room h (omega (arith, L)) (omega (arith, L)))
+      taking (Q.clear-event-records log flags hs) refl (λ room h. clear-events-admitted (length built) room h (omega (arith, L)) (omega (arith, L)))
       (payload-log log flags hs hl, payload-flags log flags hs hf, counted, payload-handles log flags hs small) events-meant
 
 -- ---- the theorem

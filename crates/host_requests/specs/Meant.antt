@@ -2,12 +2,12 @@
 -- another (document 02, W-202: "a request built and then taken by the device is the one meant"). Assumes nothing.
 use Prim.Native.Nat.{ℕ, _+_, _≤_, _<_, _^_}
 use mathlib.Core.Path.{_≡_}
-use mathlib.Core.Bool.{Bool, true, cond}
+use mathlib.Core.Bool.{Bool, true, not, cond}
 use mathlib.Core.List.{List}
 use lib.Dec.{eqb, ltb, leb}
 use lib.ListN.{length, getD}
 use Rattle.wire.specs.Wire.{part, field, same}
-use Rattle.wire.specs.Returns.{success, invalid-input, invalid-log, inject-limit, need}
+use Rattle.wire.specs.Returns.{success, invalid-input, media-disabled, invalid-log, inject-limit, need}
 use Rattle.poison.specs.Inject.{injects, adds, after-inject}
 use Rattle.poison.specs.Clear.{after-clear}
 use Rattle.events.specs.Log.{LogState, log-at}
@@ -17,6 +17,7 @@ use Rattle.events.specs.Clear.{log-field, count-field, handles-at}
 use Rattle.labels.specs.Labels.{label-size}
 use Rattle.commands.specs.Numbers.{mailbox-size, event-records}
 use Rattle.mailbox.specs.State.{DeviceState, lines-of, with-clock, with-policy, with-logs, with-poison}
+use Rattle.mailbox.specs.Ending.{ended}
 use Rattle.commands.specs.Reply.{Reply, replied, no-reply}
 use Rattle.mailbox.specs.Outcome.{Outcome, reads, changes, refused}
 use Rattle.commands.specs.Clock.{device-time}
@@ -27,7 +28,7 @@ use Rattle.commands.specs.EffectsLog as Logs
 use Rattle.commands.specs.Identity as Identity
 use Rattle.commands.specs.PoisonCommands.{line-of, line-code, range-code, list-reply, injection-record}
 use Rattle.commands.specs.Commands.{admission}
-use Rattle.mailbox.specs.DeviceCalls.{event-report}
+use Rattle.mailbox.specs.DeviceCalls.{event-answer}
 use Rattle.mailbox.specs.Mailbox.{reports, outcome}
 use Rattle.host_requests.specs.Requests.{Request, get-event-records, clear-event-records, get-event-interrupt-policy, set-event-interrupt-policy, get-timestamp, set-timestamp, get-supported-logs, get-log, identify, get-poison-list, inject-poison, clear-poison, opcode, payload}
 
@@ -68,22 +69,24 @@ list-of d address n =
     need (eqb (range-code (lines-of d) address n) success) (no-reply (range-code (lines-of d) address n))
     (replied (list-reply (d .poison) (line-of address) n))
 
--- Inject Poison at an address: "unaligned 0002h; outside 000Fh; covered, Success and nothing changes; 256 held, 0010h"; "an Inject Poison that adds an entry also
--- reports an event to log 0" (document 02, W-204)
+-- Inject Poison at an address: while media is disabled, 0007h, "after the length check" (document 02, W-207) and so before its own checks; "unaligned 0002h; outside 000Fh; covered, Success and nothing
+-- changes; 256 held, 0010h"; "an Inject Poison that adds an entry also reports an event to log 0" (document 02, W-204)
 abbrev pub injected : DeviceState → ℕ → ℕ → Outcome
 injected d address time =
-    need (eqb (line-code (lines-of d) address) success) (refused (line-code (lines-of d) address) d)
+    need (not (d .media .disabled)) (refused media-disabled d)
+    (need (eqb (line-code (lines-of d) address) success) (refused (line-code (lines-of d) address) d)
     (need (injects (d .poison) (line-of address)) (refused inject-limit d)
     (need (adds (d .poison) (line-of address)) (changes success d)
-    (reports success (event-report (with-poison d (after-inject (d .poison) (line-of address))) time 0 (injection-record address)))))
+    (reports success (event-answer (with-poison d (after-inject (d .poison) (line-of address))) time 0 (injection-record address))))))
 
--- Clear Poison at an address: "unaligned 0002h; outside 000Fh"
+-- Clear Poison at an address: while media is disabled, 0007h (document 02, W-207), likewise; "unaligned 0002h; outside 000Fh"
 abbrev pub poison-cleared : DeviceState → ℕ → ℕ → Outcome
 poison-cleared d address time =
-    need (eqb (line-code (lines-of d) address) success) (refused (line-code (lines-of d) address) d)
-    (changes success (with-poison d (after-clear (d .poison) (line-of address) (device-time (d .clock) time))))
+    need (not (d .media .disabled)) (refused media-disabled d)
+    (need (eqb (line-code (lines-of d) address) success) (refused (line-code (lines-of d) address) d)
+    (changes success (with-poison d (after-clear (d .poison) (line-of address) (device-time (d .clock) time)))))
 
--- ---- what a request means on a device at the caller's time. Of Clear Event Records a flag bit 1 to 7 set is 0002h, and of Set Event Interrupt Policy a mode of 2 or 3 (document
+-- ---- what a request means on the device that it finds, at the caller's time. Of Clear Event Records a flag bit 1 to 7 set is 0002h, and of Set Event Interrupt Policy a mode of 2 or 3 (document
 -- 02, W-205); a request has no field for the reserved bytes.
 unfoldable pub meant : Request → DeviceState → ℕ → Outcome
 meant (get-event-records log) d time = reads d (records-of d log)
@@ -133,9 +136,9 @@ Widths (get-poison-list address lines) = (address < 256 ^ 8) × (lines < 256 ^ 8
 Widths (inject-poison address) = address < 256 ^ 8
 Widths (clear-poison address bytes) = address < 256 ^ 8
 
--- ---- the theorem's statement: the payload passes the checks before a command's own, its fields are those given, and the outcome on any device is the one meant, whatever label area of 4,096
--- bytes is lent (none of the twelve sees it)
+-- ---- the theorem's statement: the payload passes the checks before a command's own that are the same on every device, its fields are those given, and the outcome on any device is the one meant on the device
+-- that the call finds (a due Sanitize is ended first: document 02, W-207), whatever label area of 4,096 bytes is lent (none of the twelve sees it)
 pub record Taken (q : Request) : Type 0 where
   pub admitted : (room : ℕ) → mailbox-size ≤ room → admission (opcode q) (length (payload q)) label-size room ≡ success
   pub fields : FieldsRead q (payload q)
-  pub outcome : (d : DeviceState) (time : ℕ) (area : List ℕ) → length area ≡ label-size → (room : ℕ) → mailbox-size ≤ room → outcome d (opcode q) (payload q) time area room ≡ meant q d time
+  pub outcome : (d : DeviceState) (time : ℕ) (area : List ℕ) → length area ≡ label-size → (room : ℕ) → mailbox-size ≤ room → outcome d (opcode q) (payload q) time area room ≡ meant q (ended d time) time

@@ -8,22 +8,26 @@ use lib.ListN.{length}
 use Rattle.labels.specs.Labels.{label-size}
 use Rattle.commands.specs.Numbers.{mailbox-size}
 use Rattle.mailbox.specs.State.{DeviceState}
-use Rattle.commands.specs.Commands.{commands, admission}
-use Rattle.mailbox.specs.Mailbox.{run-command, outcome}
-use Rattle.commands.proofs.Laws.{admission-at}
+use Rattle.commands.specs.Commands.{commands, admission, while-disabled, first-code}
+use Rattle.mailbox.specs.Mailbox.{run-command, answer}
+use Rattle.commands.proofs.Laws.{admission-at, first-allowed}
 
 module _ (d : DeviceState) (op : ℕ) (p : List ℕ) (time : ℕ) (area : List ℕ) (room : ℕ) where
-  pub admitted-runs : admission op (length p) (length area) room ≡ 0 → outcome d op p time area room ≡ run-command d op p time area
-  unfolding outcome
-  admitted-runs z = rw (eq-eqb (admission op (length p) (length area) room) 0 z)
+  pub admitted-runs : first-code (d .media .disabled) op (length p) (length area) room ≡ 0 → answer d op p time area room ≡ run-command d op p time area
+  unfolding answer
+  admitted-runs z = rw (eq-eqb (first-code (d .media .disabled) op (length p) (length area) room) 0 z)
 
-  pub accepted-runs : outcome d op p time area room .code ≡ 0 → outcome d op p time area room ≡ run-command d op p time area
-  unfolding outcome
-  accepted-runs e = go (ℕ-discrete (admission op (length p) (length area) room) 0)
+  -- one that media disabled allows, past the other checks before its own
+  pub allowed-runs : while-disabled op ≡ 0 → admission op (length p) (length area) room ≡ 0 → answer d op p time area room ≡ run-command d op p time area
+  allowed-runs free z = admitted-runs (sym (first-allowed (d .media .disabled) op (length p) (length area) room free) ∙ z)
+
+  pub accepted-runs : answer d op p time area room .code ≡ 0 → answer d op p time area room ≡ run-command d op p time area
+  unfolding answer
+  accepted-runs e = go (ℕ-discrete (first-code (d .media .disabled) op (length p) (length area) room) 0)
     where
-      go : Dec (admission op (length p) (length area) room ≡ 0) → outcome d op p time area room ≡ run-command d op p time area
+      go : Dec (first-code (d .media .disabled) op (length p) (length area) room ≡ 0) → answer d op p time area room ≡ run-command d op p time area
       go (yes z) = admitted-runs z
-      go (no f) = absurd (f (rw (ne-eqb (admission op (length p) (length area) room) 0 f) at e))
+      go (no f) = absurd (f (rw (ne-eqb (first-code (d .media .disabled) op (length p) (length area) room) 0 f) at e))
 
 -- Clear Event Records with a payload of 6 to 2,048 bytes and room for every reply is let through to its own checks
 pub clear-events-admitted : (n room : ℕ) → mailbox-size ≤ room → 6 ≤ n → n ≤ mailbox-size → admission 0x0101 n label-size room ≡ 0

@@ -12,7 +12,7 @@ use Rattle.wire.specs.declared.done.Done.{Done}
 use Rattle.wire.specs.Done.{Writes}
 use Rattle.labels.specs.Labels.{label-size, get-labels, set-labels, Sets}
 use Rattle.commands.specs.Numbers.{mailbox-size}
-use Rattle.commands.specs.Commands.{admission}
+use Rattle.commands.specs.Commands.{first-code}
 use Rattle.mailbox.specs.Mailbox.{run-command, area-after}
 use Rattle.mailbox.specs.ByParts.{of-area, AreaAnswered}
 use Rattle.mailbox.proofs.Answers.{refusal-answer, answer-at, read-answer, change-answer}
@@ -58,26 +58,26 @@ module _ (op : ℕ) (p : List ℕ) (code : ℕ) (area : List ℕ) where
       and-false false = refl
 
 -- ---- `area_command`
-module _ {op : ℕ} {p before area : List ℕ} where
+module _ {disabled : Bool} {op : ℕ} {p before area : List ℕ} where
   -- refused by the checks before a command's own
-  pub area-refused : (code : ℕ) → code ≡ admission op (length p) (length area) (length before) → (code ≡ 0 → ⊥) → AreaAnswered op p (record { code = code; length = 0 }) before before area area
-  area-refused code e f = record { answered = λ d time v. refusal-answer d op p time area (length before) code v e f; area = refusal-leaves op p code area f }
+  pub area-refused : (code : ℕ) → code ≡ first-code disabled op (length p) (length area) (length before) → (code ≡ 0 → ⊥) → AreaAnswered disabled op p (record { code = code; length = 0 }) before before area area
+  area-refused code e f = record { answered = λ d time v same. refusal-answer d op p time area (length before) code v (e ∙ ap (λ (b : Bool). first-code b op (length p) (length area) (length before)) (sym same)) f; area = refusal-leaves op p code area f }
 
-  module _ (sized : length area ≡ label-size) (admitted : admission op (length p) label-size (length before) ≡ 0) where
+  module _ (sized : length area ≡ label-size) (admitted : first-code disabled op (length p) label-size (length before) ≡ 0) where
     -- Get LSA
-    pub area-got : {r : Done} {after : List ℕ} → op ≡ 0x4102 → Writes (get-labels mailbox-size p area) r before after → AreaAnswered op p (record { code = r .code; length = r .length }) before after area area
+    pub area-got : {r : Done} {after : List ℕ} → op ≡ 0x4102 → Writes (get-labels mailbox-size p area) r before after → AreaAnswered disabled op p (record { code = r .code; length = r .length }) before after area area
     unfolding run-command
     area-got {r} {after} o a =
         record {
-          answered = λ d time v. answer-at d op p time area sized (length before) 0x4102 admitted o (read-answer v (a .code) (a .size) (a .bytes));
+          answered = λ d time v same. answer-at d same op p time area sized (length before) 0x4102 admitted o (read-answer v (a .code) (a .size) (a .bytes));
           area = other-leaves op p (r .code) area (ap (λ (x : ℕ). eqb x 0x4103) o);
         }
 
     -- Set LSA
-    pub area-set : {code : ℕ} {left : List ℕ} → op ≡ 0x4103 → Sets p code area left → AreaAnswered op p (record { code = code; length = 0 }) before before area left
+    pub area-set : {code : ℕ} {left : List ℕ} → op ≡ 0x4103 → Sets p code area left → AreaAnswered disabled op p (record { code = code; length = 0 }) before before area left
     unfolding run-command area-after
     area-set {code} {left} o a =
         record {
-          answered = λ d time v. answer-at d op p time area sized (length before) 0x4103 admitted o (change-answer v (a .code) refl (λ f. refl));
+          answered = λ d time v same. answer-at d same op p time area sized (length before) 0x4103 admitted o (change-answer v (a .code) refl (λ f. refl));
           area = a .bytes ∙ sym (ap (λ (x : ℕ). cond (eqb x 0x4103 && eqb code success) (set-labels p area) area) o);
         }

@@ -1,6 +1,6 @@
 -- Demand 1: what is refused gives nothing and changes nothing. Shown of the definitions that the contracts cite, for every command and for every device-side
--- call that has a number. (The contracts' own field `refused` says further that the code hands back the very same value.) Assumes nothing.
-use mathlib.Core.Path.{_≡_, refl, sym, ap, _∙_}
+-- call that has a number: the "device as it was" is the device that the end of a due Sanitize leaves (document 02, W-207). A refusal is a number other than 0000h and 0001h (`Refused`). Assumes nothing.
+use mathlib.Core.Path.{_≡_, refl, sym, ap, _∙_, subst}
 use mathlib.Core.Bool.{false, _&&_}
 use mathlib.Core.List.{List, []}
 use Prim.Native.Nat.{ℕ, _+_}
@@ -10,9 +10,10 @@ use lib.ListN.{length}
 use Rattle.wire.specs.Wire.{field, part, splice, same}
 use Rattle.poison.specs.State.{PoisonState}
 use Rattle.poison.specs.Inject.{injects}
-use Rattle.poison.specs.LineTest.{answer-number}
-use Rattle.poison.specs.declared.line_test.LineTest.{LineTest}
-use Rattle.poison.specs.declared.line_test.LineTest.the-variants.{Clean, Damaged, Unknown}
+use Rattle.mailbox.specs.LineStatus.{status-number}
+use Rattle.mailbox.specs.declared.line_status.LineStatus.{LineStatus}
+use Rattle.mailbox.specs.declared.line_status.LineStatus.the-variants.{Clean, Damaged, Unknown, Disabled}
+use Rattle.mailbox.specs.Ending.{ended, Ends, AfterEnding}
 use Rattle.events.specs.Log.{LogState}
 use Rattle.events.proofs.Laws.{refused-report-changes-nothing, refused-clear-changes-nothing, refused-get-replies-nothing}
 use Rattle.mailbox.specs.State.{DeviceState, lines-of, with-policy, with-logs, with-poison, state-of}
@@ -25,10 +26,10 @@ use Rattle.mailbox.specs.declared.device_calls.LineAnswer.{LineAnswer}
 use Rattle.commands.specs.declared.vector.Vector.the-variants.{None}
 use Rattle.commands.specs.Vector.{no-vector, raised}
 use Rattle.mailbox.specs.Contracts.{Answered, Makes, EventDone, MediaDone, LineDone}
-use Rattle.wire.specs.Returns.{invalid-input}
+use Rattle.wire.specs.Returns.{invalid-input, started, Refused}
 use Rattle.wire.proofs.Laws.{either}
 use Rattle.commands.specs.Numbers.{mailbox-size, most-units}
-use Rattle.commands.specs.Commands.{admission}
+use Rattle.commands.specs.Commands.{first-code}
 use Rattle.commands.specs.Reply.{Reply, replied, no-reply}
 use Rattle.mailbox.specs.Outcome.{Outcome, reads, changes}
 use Rattle.commands.specs.Clock.{device-time, get-timestamp}
@@ -39,15 +40,15 @@ use Rattle.mailbox.specs.EventCommands.{get-event-records, clear-event-r
 use Rattle.commands.specs.PoisonCommands.{ListChange, line-of, line-code, range-code, get-poison-list, inject-poison, inject-adds, clear-poison}
 use Rattle.labels.specs.Labels.{get-labels}
 use Rattle.labels.proofs.Laws.{get-refused}
-use Rattle.mailbox.specs.Mailbox.{area-after, run-command, inject, outcome, changes-policy, changes-list}
-use Rattle.mailbox.specs.DeviceCalls.{new-device, MakeOutcome, make, event-report, media-code, MediaOutcome, media-report, LineOutcome, line-test}
+use Rattle.mailbox.specs.Mailbox.{area-after, run-command, inject, answer, outcome, changes-policy, changes-list}
+use Rattle.mailbox.specs.DeviceCalls.{new-device, MakeOutcome, make, event-answer, event-report, media-code, MediaOutcome, media-answer, media-report, LineOutcome, line-test}
 use Rattle.mailbox.proofs.AreaAnswers.{refusal-leaves}
 use Rattle.commands.proofs.Laws.{refused-set-changes-nothing}
 use Rattle.commands.proofs.Laws.{raised-later}
 
--- a number that is not 0 comes with no reply, the state as it was and no vector
+-- a refusal comes with no reply, the state as it was and no vector
 pub record Refuses (d : DeviceState) (o : Outcome) : Type 0 where
-  pub refuses : (o .code ≡ 0 → ⊥) → (o .reply ≡ []) × (o .next ≡ d) × (o .vector ≡ no-vector)
+  pub refuses : Refused (o .code) → (o .reply ≡ []) × (o .next ≡ d) × (o .vector ≡ no-vector)
 
 -- the same of a reply, and of a change of the list
 record Silent (o : Reply) : Type 0 where
@@ -84,18 +85,22 @@ unfolding get-poison-list
 list-silent lines s p = either Silent (eqb (range-code lines (field p 0 8) (field p 8 8)) 0) (success-silent _) (refusal-silent _)
 
 silent-refuses : (d : DeviceState) {o : Reply} → Silent o → Refuses d (reads d o)
-silent-refuses d k = record { refuses = λ h. (k .silent h, refl, refl) }
+silent-refuses d k = record { refuses = λ h. (k .silent (h .not-success), refl, refl) }
 
 -- ---- changes
 success-refuses : (d e : DeviceState) → Refuses d (changes 0 e)
-success-refuses d e = record { refuses = λ h. absurd (h refl) }
+success-refuses d e = record { refuses = λ h. absurd (h .not-success refl) }
+
+-- 0001h "is no refusal" (document 02, W-207)
+started-refuses : (d e : DeviceState) → Refuses d (changes started e)
+started-refuses d e = record { refuses = λ h. absurd (h .not-started refl) }
 
 policy-refuses : (d : DeviceState) (p : List ℕ) → Refuses d (changes-policy d (set-interrupt-policy (d .policy) p))
-policy-refuses d p = record { refuses = λ h. (refl, ap (with-policy d) (refused-set-changes-nothing (d .policy) p h), refl) }
+policy-refuses d p = record { refuses = λ h. (refl, ap (with-policy d) (refused-set-changes-nothing (d .policy) p (h .not-success)), refl) }
 
 events-refuse : (d : DeviceState) (p : List ℕ) → Refuses d (clear-event-records d p)
 unfolding clear-event-records
-events-refuse d p = record { refuses = λ h. (refl, ap (with-logs d) (refused-clear-changes-nothing (d .logs) p h), refl) }
+events-refuse d p = record { refuses = λ h. (refl, ap (with-logs d) (refused-clear-changes-nothing (d .logs) p (h .not-success)), refl) }
 
 inject-keeps : (lines : ℕ) (s : PoisonState) (p : List ℕ) → Keeps s (inject-poison lines s p)
 unfolding inject-poison
@@ -109,13 +114,13 @@ unfolding clear-poison
 clear-keeps lines s p time = either (Keeps s) (eqb (line-code lines (field p 0 8)) 0) (record { keeps = λ h. absurd (h refl) }) (record { keeps = λ h. refl })
 
 keeps-refuses : (d : DeviceState) {c : ListChange} → Keeps (d .poison) c → Refuses d (changes-list d c)
-keeps-refuses d k = record { refuses = λ h. (refl, ap (with-poison d) (k .keeps h), refl) }
+keeps-refuses d k = record { refuses = λ h. (refl, ap (with-poison d) (k .keeps (h .not-success)), refl) }
 
 -- one that adds an entry is never refused, whatever its event report answers
 inject-refuses : (d : DeviceState) (p : List ℕ) (time : ℕ) → Refuses d (inject d p time)
 unfolding inject
 inject-refuses d p time =
-    either (Refuses d) (inject-adds (lines-of d) (d .poison) p) (record { refuses = λ h. absurd (h refl) }) (keeps-refuses d (inject-keeps _ _ p))
+    either (Refuses d) (inject-adds (lines-of d) (d .poison) p) (record { refuses = λ h. absurd (h .not-success refl) }) (keeps-refuses d (inject-keeps _ _ p))
 
 -- ---- the commands
 commands-refuse : (d : DeviceState) (op : ℕ) (p : List ℕ) (time : ℕ) (area : List ℕ) → Refuses d (run-command d op p time area)
@@ -135,90 +140,119 @@ commands-refuse d op p time area =
     (either (Refuses d) (eqb op 0x4300) (silent-refuses d (list-silent _ _ p))
     (either (Refuses d) (eqb op 0x4301) (inject-refuses d p time)
     (either (Refuses d) (eqb op 0x4302) (keeps-refuses d (clear-keeps _ _ p _))
-    (record { refuses = λ h. (refl, refl, refl) }))))))))))))))
+    (either (Refuses d) (eqb op 0x4400) (started-refuses d _)
+    (record { refuses = λ h. (refl, refl, refl) })))))))))))))))
 
--- Demand 1 for the commands: a command whose return number is not 0 has an empty reply, leaves the device's state as it was and carries no vector, whatever the opcode, the
--- payload, the time, the label area and the size of the reply buffer.
-pub refusal : (d : DeviceState) (op : ℕ) (p : List ℕ) (time : ℕ) (area : List ℕ) (room : ℕ) → (outcome d op p time area room .code ≡ 0 → ⊥)
-    → (outcome d op p time area room .reply ≡ []) × (outcome d op p time area room .next ≡ d) × (outcome d op p time area room .vector ≡ no-vector)
-unfolding outcome
-refusal d op p time area room = either (Refuses d) (eqb (admission op (length p) (length area) room) 0) (commands-refuse d op p time area) (record { refuses = λ h. (refl, refl, refl) }) .refuses
+-- on the device that a command finds
+found-refusal : (d : DeviceState) (op : ℕ) (p : List ℕ) (time : ℕ) (area : List ℕ) (room : ℕ) → Refused (answer d op p time area room .code)
+    → (answer d op p time area room .reply ≡ []) × (answer d op p time area room .next ≡ d) × (answer d op p time area room .vector ≡ no-vector)
+unfolding answer
+found-refusal d op p time area room =
+    either (Refuses d) (eqb (first-code (d .media .disabled) op (length p) (length area) room) 0) (commands-refuse d op p time area) (record { refuses = λ h. (refl, refl, refl) }) .refuses
 
--- Demand 1 for event report: a refused report answers not stored, leaves the state as it was and carries no vector.
-pub event-refusal : (d : DeviceState) (time log : ℕ) (bytes : List ℕ) → (event-report d time log bytes .code ≡ 0 → ⊥)
-    → (event-report d time log bytes .stored ≡ false) × (event-report d time log bytes .next ≡ d) × (event-report d time log bytes .vector ≡ no-vector)
-unfolding event-report
-event-refusal d time log bytes h =
+-- Demand 1 for the commands: a command that is refused has an empty reply, leaves the device's state as the end of a due Sanitize leaves it, and carries no vector, whatever the opcode, the payload, the
+-- time, the label area and the size of the reply buffer.
+pub refusal : (d : DeviceState) (op : ℕ) (p : List ℕ) (time : ℕ) (area : List ℕ) (room : ℕ) → Refused (outcome d op p time area room .code)
+    → (outcome d op p time area room .reply ≡ []) × (outcome d op p time area room .next ≡ ended d time) × (outcome d op p time area room .vector ≡ no-vector)
+refusal d op p time area room h = found-refusal (ended d time) op p time area room h
+
+-- Demand 1 for event report: a refused report answers not stored, leaves the state as the end of a due Sanitize leaves it and carries no vector.
+found-event-refusal : (d : DeviceState) (time log : ℕ) (bytes : List ℕ) → (event-answer d time log bytes .code ≡ 0 → ⊥)
+    → (event-answer d time log bytes .stored ≡ false) × (event-answer d time log bytes .next ≡ d) × (event-answer d time log bytes .vector ≡ no-vector)
+unfolding event-answer
+found-event-refusal d time log bytes h =
     let r = refused-report-changes-nothing (d .logs) log bytes (device-time (d .clock) time) h in
     (r .0, ap (with-logs d) (r .1), ap (raised (d .policy) log) (r .2) ∙ raised-later (d .policy) log)
 
-record NothingStored (d : DeviceState) (o : MediaOutcome) : Type 0 where
-  nothing : (o .code ≡ 0 → ⊥) → (o .stored ≡ 0) × (o .dropped ≡ 0) × (o .next ≡ d)
+pub event-refusal : (d : DeviceState) (time log : ℕ) (bytes : List ℕ) → Refused (event-report d time log bytes .code)
+    → (event-report d time log bytes .stored ≡ false) × (event-report d time log bytes .next ≡ ended d time) × (event-report d time log bytes .vector ≡ no-vector)
+event-refusal d time log bytes h = found-event-refusal (ended d time) time log bytes (h .not-success)
 
--- Demand 1 for media report: a refused report answers 0 lines stored and 0 dropped and leaves the state as it was.
-pub media-refusal : (d : DeviceState) (time address n kind : ℕ) → (media-report d time address n kind .code ≡ 0 → ⊥)
-    → (media-report d time address n kind .stored ≡ 0) × (media-report d time address n kind .dropped ≡ 0) × (media-report d time address n kind .next ≡ d)
-unfolding media-report
-media-refusal d time address n kind =
-    either (NothingStored d) (eqb (media-code (lines-of d) address n kind) 0) (record { nothing = λ h. absurd (h refl) }) (record { nothing = λ h. (refl, refl, refl) }) .nothing
+record NothingStored (d : DeviceState) (o : MediaOutcome) : Type 0 where
+  nothing : Refused (o .code) → (o .stored ≡ 0) × (o .dropped ≡ 0) × (o .next ≡ d)
+
+found-media-refusal : (d : DeviceState) (time address n kind : ℕ) → NothingStored d (media-answer d time address n kind)
+unfolding media-answer
+found-media-refusal d time address n kind =
+    either (NothingStored d) (eqb (media-code (lines-of d) address n kind) 0) (record { nothing = λ h. absurd (h .not-success refl) }) (record { nothing = λ h. (refl, refl, refl) })
+
+-- Demand 1 for media report: a refused report answers 0 lines stored and 0 dropped and leaves the state as the end of a due Sanitize leaves it.
+pub media-refusal : (d : DeviceState) (time address n kind : ℕ) → Refused (media-report d time address n kind .code)
+    → (media-report d time address n kind .stored ≡ 0) × (media-report d time address n kind .dropped ≡ 0) × (media-report d time address n kind .next ≡ ended d time)
+media-refusal d time address n kind = found-media-refusal (ended d time) time address n kind .nothing
 
 record NothingTold (o : LineOutcome) : Type 0 where
-  nothing : (o .code ≡ 0 → ⊥) → (o .number ≡ 2) × (o .kind ≡ 0)
+  nothing : Refused (o .code) → (o .number ≡ 2) × (o .kind ≡ 0)
 
 -- Demand 1 for line test: a refused test answers Unknown, number 2, with type 0.
-pub line-refusal : (d : DeviceState) (address : ℕ) → (line-test d address .code ≡ 0 → ⊥) → (line-test d address .number ≡ 2) × (line-test d address .kind ≡ 0)
+pub line-refusal : (d : DeviceState) (address : ℕ) → Refused (line-test d address .code) → (line-test d address .number ≡ 2) × (line-test d address .kind ≡ 0)
 unfolding line-test
 line-refusal d address =
-    either NothingTold (eqb (line-code (lines-of d) address) 0) (record { nothing = λ h. absurd (h refl) }) (record { nothing = λ h. (refl, refl) }) .nothing
+    either NothingTold (eqb (line-code (lines-of d) address) 0)
+    (either NothingTold (d .media .disabled) (record { nothing = λ h. absurd (h .not-success refl) }) (record { nothing = λ h. absurd (h .not-success refl) }))
+    (record { nothing = λ h. (refl, refl) }) .nothing
 
 record OneUnit (o : MakeOutcome) : Type 0 where
-  one-unit : (o .code ≡ 0 → ⊥) → (o .code ≡ invalid-input) × (o .next ≡ new-device 1 0)
+  one-unit : Refused (o .code) → (o .code ≡ invalid-input) × (o .next ≡ new-device 1 0)
 
 -- A refused make gives 0002h, and beside it the new device of one volatile unit.
-pub make-refusal : (volatile persistent : ℕ) → (make volatile persistent .code ≡ 0 → ⊥)
+pub make-refusal : (volatile persistent : ℕ) → Refused (make volatile persistent .code)
     → (make volatile persistent .code ≡ invalid-input) × (make volatile persistent .next ≡ new-device 1 0)
 unfolding make
 make-refusal volatile persistent =
-    either OneUnit (leb 1 (volatile + persistent) && leb (volatile + persistent) most-units) (record { one-unit = λ h. absurd (h refl) }) (record { one-unit = λ h. (refl, refl) }) .one-unit
+    either OneUnit (leb 1 (volatile + persistent) && leb (volatile + persistent) most-units) (record { one-unit = λ h. absurd (h .not-success refl) }) (record { one-unit = λ h. (refl, refl) }) .one-unit
 
--- Demand 1 of the code: a command refused by `Device::command` has length 0, hands back the very same device, alters no byte of the reply buffer and none of the label area, and carries no
--- vector.
+-- a number that is the definition's is refused where that is
+pub refused-too : {n m : ℕ} → n ≡ m → Refused n → Refused m
+refused-too e h = record { not-success = λ z. h .not-success (e ∙ z); not-started = λ z. h .not-started (e ∙ z) }
+
+-- Demand 1 of the code: a command refused by `Device::command` has length 0, leaves the device that the end of a due Sanitize leaves, and the very same value where none is due (`Ends`), alters no byte of
+-- the reply buffer and none of the label area, and carries no vector.
 pub refusal-unaltered : (d : Device) (op : ℕ) (p : List ℕ) (time : ℕ) (r : Answer) (before after area left : List ℕ)
-    → Answered (outcome (state-of d) op p time area (length before)) d r before after → left ≡ area-after op p (r .code) area → (r .code ≡ 0 → ⊥)
-    → (r .length ≡ 0) × (r .device ≡ d) × (after ≡ before) × (left ≡ area) × (r .vector ≡ None)
+    → AfterEnding d time (λ (e : Device). Answered (outcome (state-of d) op p time area (length before)) e r before after) → left ≡ area-after op p (r .code) area → Refused (r .code)
+    → (r .length ≡ 0) × Ends d time (r .device) × (after ≡ before) × (left ≡ area) × (r .vector ≡ None)
 unfolding splice
-refusal-unaltered d op p time r before after area left a l h =
-    let refuses = refusal (state-of d) op p time area (length before) (λ z. h (a .code ∙ z)) in
-    let none : outcome (state-of d) op p time area (length before) .reply ≡ [] = refuses .0 in
-    (a .size ∙ ap length none, a .refused h, a .bytes ∙ ap (λ (bs : List ℕ). splice 0 bs before) none, l ∙ sym (refusal-leaves op p (r .code) area h), a .vector .none (refuses .2))
+refusal-unaltered d op p time r before after area left found l h =
+    let a = found .done in
+    let refuses = refusal (state-of d) op p time area (length before) (refused-too (a .code) h) in
+    let none : outcome (state-of d) op p time area (length before) .reply ≡ [] = refuses .0 in (
+      a .size ∙ ap length none,
+      subst (Ends d time) (sym (a .refused h)) (found .ends),
+      a .bytes ∙ ap (λ (bs : List ℕ). splice 0 bs before) none,
+      l ∙ sym (refusal-leaves op p (r .code) area (h .not-success)),
+      a .vector .none (refuses .2),
+    )
 
--- Demand 1 of the code: an event report refused by `Device::event_report` answers not stored, hands back the very same device and carries no vector.
-pub event-unaltered : (d : Device) (time log : ℕ) (bytes : List ℕ) (r : EventAnswer) → EventDone (event-report (state-of d) time log bytes) d r
-    → (r .code ≡ 0 → ⊥) → (r .stored ≡ false) × (r .device ≡ d) × (r .vector ≡ None)
-event-unaltered d time log bytes r a h =
-    let refuses = event-refusal (state-of d) time log bytes (λ z. h (a .code ∙ z)) in
-    (a .stored ∙ refuses .0, a .refused h, a .vector .none (refuses .2))
+-- An event report refused by `Device::event_report` answers not stored, leaves such a device and carries no vector.
+pub event-unaltered : (d : Device) (time log : ℕ) (bytes : List ℕ) (r : EventAnswer) → AfterEnding d time (λ (e : Device). EventDone (event-report (state-of d) time log bytes) e r)
+    → Refused (r .code) → (r .stored ≡ false) × Ends d time (r .device) × (r .vector ≡ None)
+event-unaltered d time log bytes r found h =
+    let a = found .done in
+    let refuses = event-refusal (state-of d) time log bytes (refused-too (a .code) h) in
+    (a .stored ∙ refuses .0, subst (Ends d time) (sym (a .refused h)) (found .ends), a .vector .none (refuses .2))
 
--- A media report refused by `Device::media_report` answers 0 lines stored and 0 dropped and hands back the very same device.
-pub media-unaltered : (d : Device) (time address n kind : ℕ) (r : MediaAnswer) → MediaDone (media-report (state-of d) time address n kind) d r
-    → (r .code ≡ 0 → ⊥) → (r .stored ≡ 0) × (r .dropped ≡ 0) × (r .device ≡ d)
-media-unaltered d time address n kind r a h =
-    let none = media-refusal (state-of d) time address n kind (λ z. h (a .code ∙ z)) in
-    (a .stored ∙ none .0, a .dropped ∙ none .1, a .refused h)
+-- A media report refused by `Device::media_report` answers 0 lines stored and 0 dropped and leaves such a device.
+pub media-unaltered : (d : Device) (time address n kind : ℕ) (r : MediaAnswer) → AfterEnding d time (λ (e : Device). MediaDone (media-report (state-of d) time address n kind) e r)
+    → Refused (r .code) → (r .stored ≡ 0) × (r .dropped ≡ 0) × Ends d time (r .device)
+media-unaltered d time address n kind r found h =
+    let a = found .done in
+    let none = media-refusal (state-of d) time address n kind (refused-too (a .code) h) in
+    (a .stored ∙ none .0, a .dropped ∙ none .1, subst (Ends d time) (sym (a .refused h)) (found .ends))
 
 -- only Unknown has number 2
-only-unknown : (t : LineTest) → answer-number t ≡ 2 → t ≡ Unknown
+only-unknown : (t : LineStatus) → status-number t ≡ 2 → t ≡ Unknown
 only-unknown Clean e = absurd (omega arith)
 only-unknown (Damaged kind) e = absurd (omega arith)
 only-unknown Unknown e = refl
+only-unknown Disabled e = absurd (omega arith)
 
 -- A line test refused by `Device::line_test` answers Unknown.
-pub line-unknown : (d : Device) (address : ℕ) (r : LineAnswer) → LineDone (line-test (state-of d) address) r → (r .code ≡ 0 → ⊥) → r .answer ≡ Unknown
-line-unknown d address r a h = only-unknown (r .answer) (a .number ∙ line-refusal (state-of d) address (λ z. h (a .code ∙ z)) .0)
+pub line-unknown : (d : Device) (address : ℕ) (r : LineAnswer) → LineDone (line-test (state-of d) address) r → Refused (r .code) → r .answer ≡ Unknown
+line-unknown d address r a h = only-unknown (r .answer) (a .number ∙ line-refusal (state-of d) address (refused-too (a .code) h) .0)
 
 -- A make refused by `Device::make` gives 0002h and hands out a new device of one volatile unit.
-pub make-one-unit : (volatile persistent : ℕ) (r : Made) → Makes (make volatile persistent) r → (r .code ≡ 0 → ⊥)
+pub make-one-unit : (volatile persistent : ℕ) (r : Made) → Makes (make volatile persistent) r → Refused (r .code)
     → (r .code ≡ invalid-input) × (state-of (r .device) ≡ new-device 1 0)
 make-one-unit volatile persistent r a h =
-    let one = make-refusal volatile persistent (λ z. h (a .code ∙ z)) in
+    let one = make-refusal volatile persistent (refused-too (a .code) h) in
     (a .code ∙ one .0, a .next ∙ one .1)

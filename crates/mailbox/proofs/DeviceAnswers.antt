@@ -12,7 +12,6 @@ use Rattle.poison.specs.Report as R
 use Rattle.poison.specs.LineTest.{line-test as list-test}
 use Rattle.poison.specs.declared.list.PoisonList.{PoisonList}
 use Rattle.poison.specs.declared.line_test.LineTest.{LineTest}
-use Rattle.poison.specs.declared.line_test.LineTest.the-variants.{Unknown}
 use Rattle.events.specs.Log.{states-of, blank}
 use Rattle.events.specs.Report.{report-code, ReportOutcome, ReportDone}
 use Rattle.events.specs.declared.report.Reported.{Reported as LogReported}
@@ -23,8 +22,10 @@ use Rattle.commands.specs.Numbers.{most-units}
 use Rattle.mailbox.specs.State.{DeviceState, ValidDevice, state-of, lines-of, with-logs, with-poison}
 use Rattle.commands.specs.Clock.{device-time}
 use Rattle.commands.specs.PoisonCommands.{line-of, line-code, range-code}
-use Rattle.mailbox.specs.DeviceCalls.{new-device, make, MakeOutcome, event-report, media-code, media-report, MediaOutcome, line-test, LineOutcome}
-use Rattle.poison.specs.LineTest.{answer-number, answer-type}
+use Rattle.mailbox.specs.DeviceCalls.{new-device, make, MakeOutcome, event-answer, media-code, media-answer, MediaOutcome, line-test, LineOutcome}
+use Rattle.mailbox.specs.LineStatus.{status-number, status-type, status-of}
+use Rattle.mailbox.specs.declared.line_status.LineStatus.{LineStatus}
+use Rattle.mailbox.specs.declared.line_status.LineStatus.the-variants.{Unknown, Disabled}
 use Rattle.commands.specs.Vector.{no-vector, numbered, raised}
 use Rattle.mailbox.specs.Contracts.{Makes, EventDone, MediaDone, LineDone}
 use Rattle.wire.proofs.Laws.{need-fails, need-holds, need-zero}
@@ -70,8 +71,8 @@ module _ (volatile persistent : ℕ) {d : Device} where
 -- ---- event report
 module _ (d : Device) (time log : ℕ) (bytes : List ℕ) (v : ValidDevice d) where
   pub event-refused : (code : ℕ) → code ≡ report-code log (length bytes) → (code ≡ 0 → ⊥)
-      → EventDone (event-report (state-of d) time log bytes) d (record { code = code; stored = false; vector = numbered no-vector; device = d })
-  unfolding event-report
+      → EventDone (event-answer (state-of d) time log bytes) d (record { code = code; stored = false; vector = numbered no-vector; device = d })
+  unfolding event-answer
   event-refused code e f =
       let r = event-report-refused (states-of (d .logs)) log bytes (device-time (d .clock) time) (λ z. f (e ∙ z)) in
       record {
@@ -85,14 +86,14 @@ module _ (d : Device) (time log : ℕ) (bytes : List ℕ) (v : ValidDevice d) wh
 
   pub event-taken : (code now : ℕ) (a : LogReported) → length (d .logs) ≡ 5 → code ≡ 0 → now ≡ device-time (d .clock) time → report-code log (length bytes) ≡ 0
       → ReportDone (getD (d .logs) log blank) bytes now a
-      → EventDone (event-report (state-of d) time log bytes) d
+      → EventDone (event-answer (state-of d) time log bytes) d
       (record {
         code = code;
         stored = a .stored;
         vector = numbered (raised (d .policy) log (a .first));
-        device = record { volatile = d .volatile; persistent = d .persistent; clock = d .clock; policy = d .policy; logs = set (d .logs) log (a .log); poison = d .poison };
+        device = record { volatile = d .volatile; persistent = d .persistent; clock = d .clock; policy = d .policy; logs = set (d .logs) log (a .log); poison = d .poison; media = d .media };
       })
-  unfolding event-report
+  unfolding event-answer
   event-taken code now a five none t z done =
       let r = event-report-taken (d .logs) log bytes (device-time (d .clock) time) a z (subst (λ (x : ℕ). ReportDone (getD (d .logs) log blank) bytes x a) t done) in
       record {
@@ -100,7 +101,7 @@ module _ (d : Device) (time log : ℕ) (bytes : List ℕ) (v : ValidDevice d) wh
         stored = sym (ap (λ (x : ReportOutcome). x .stored) r);
         vector = carries-equal (sym (ap (λ (x : ReportOutcome). raised (d .policy) log (x .first)) r)) (carries-numbered _);
         next = sym (ap (λ (x : ReportOutcome). with-logs (state-of d) (x .logs)) r);
-        refused = λ g. absurd (g none);
+        refused = λ g. absurd (g .not-success none);
         valid = valid-device d _ _ _ _ v (valid-set (d .logs) log (a .log) five (report-code-zero log (length bytes) z .1) (v .logs) (done .valid)) (v .poison);
       }
 
@@ -131,33 +132,33 @@ module _ (lines address n kind : ℕ) where
 
 module _ (d : Device) (time address n kind : ℕ) (v : ValidDevice d) where
   pub media-refused : (code : ℕ) → code ≡ media-code (lines-of (state-of d)) address n kind → (code ≡ 0 → ⊥)
-      → MediaDone (media-report (state-of d) time address n kind) d (record { code = code; stored = 0; dropped = 0; device = d })
-  unfolding media-report
+      → MediaDone (media-answer (state-of d) time address n kind) d (record { code = code; stored = 0; dropped = 0; device = d })
+  unfolding media-answer
   media-refused code e f =
       subst (λ (x : MediaOutcome). MediaDone x d (record { code = code; stored = 0; dropped = 0; device = d })) (sym (simp (sym e, ne-eqb _ _ f)))
       (record { code = refl; stored = refl; dropped = refl; next = refl; refused = λ g. refl; valid = v })
 
   pub media-taken : (code now : ℕ) {s r : ℕ} {l : PoisonList} → code ≡ 0 → now ≡ device-time (d .clock) time → media-code (lines-of (state-of d)) address n kind ≡ 0
       → R.Reports (d .poison) (line-of address) n kind now s r l
-      → MediaDone (media-report (state-of d) time address n kind) d
+      → MediaDone (media-answer (state-of d) time address n kind) d
       (record {
         code = code;
         stored = s;
         dropped = r;
-        device = record { volatile = d .volatile; persistent = d .persistent; clock = d .clock; policy = d .policy; logs = d .logs; poison = l };
+        device = record { volatile = d .volatile; persistent = d .persistent; clock = d .clock; policy = d .policy; logs = d .logs; poison = l; media = d .media };
       })
-  unfolding media-report
+  unfolding media-answer
   media-taken code now none t z done =
       record {
         code = none ∙ sym (ap (λ (x : MediaOutcome). x .code) taken);
         stored = done .stored ∙ sym (ap (λ (x : MediaOutcome). x .stored) taken);
         dropped = done .dropped ∙ sym (ap (λ (x : MediaOutcome). x .dropped) taken);
         next = ap (with-poison (state-of d)) (done .state ∙ ap (R.after-report (state-of d .poison) (line-of address) n kind) t) ∙ sym (ap (λ (x : MediaOutcome). x .next) taken);
-        refused = λ g. absurd (g none);
+        refused = λ g. absurd (g .not-success none);
         valid = valid-device d _ _ _ _ v (v .logs) (done .valid _ (v .poison) (media-zero (lines-of (state-of d)) address n kind z .1));
       }
     where
-      taken : media-report (state-of d) time address n kind
+      taken : media-answer (state-of d) time address n kind
           ≡ record {
             code = success;
             stored = R.lines-stored (state-of d .poison .entries) (line-of address) n;
@@ -174,8 +175,15 @@ module _ (d : Device) (address : ℕ) where
   line-refused code e f =
       subst (λ (x : LineOutcome). LineDone x (record { code = code; answer = Unknown })) (sym (simp (sym e, ne-eqb _ _ f))) (record { code = refl; number = refl; kind = refl })
 
-  pub line-tested : (a : LineTest) → line-code (lines-of (state-of d)) address ≡ 0 → a ≡ list-test (P.state-of (d .poison)) (line-of address)
-      → LineDone (line-test (state-of d) address) (record { code = 0; answer = a })
-  unfolding line-test
-  line-tested a z e =
-      subst (λ (x : LineOutcome). LineDone x (record { code = 0; answer = a })) (sym (simp z)) (record { code = refl; number = ap answer-number e; kind = ap answer-type e })
+  module _ (z : line-code (lines-of (state-of d)) address ≡ 0) where
+    -- "While disabled the line test answers Disabled, 3, after its address checks" (document 02, W-207)
+    pub line-disabled : d .media .disabled ≡ true → LineDone (line-test (state-of d) address) (record { code = 0; answer = Disabled })
+    unfolding line-test
+    line-disabled off = subst (λ (x : LineOutcome). LineDone x (record { code = 0; answer = Disabled })) (sym (simp (z, off))) (record { code = refl; number = refl; kind = refl })
+
+    pub line-tested : (t : LineTest) {a : LineStatus} → d .media .disabled ≡ false → t ≡ list-test (P.state-of (d .poison)) (line-of address) → a ≡ status-of t
+        → LineDone (line-test (state-of d) address) (record { code = 0; answer = a })
+    unfolding line-test
+    line-tested t {a} on e s =
+        let told = s ∙ ap status-of e in
+        subst (λ (x : LineOutcome). LineDone x (record { code = 0; answer = a })) (sym (simp (z, on))) (record { code = refl; number = ap status-number told; kind = ap status-type told })

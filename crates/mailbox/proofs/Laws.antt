@@ -2,15 +2,20 @@
 -- of proofs/ that a crate above may cite (`tests/layers`): these laws, the definitions of specs/ and the functions' contracts are the layer's stated behaviour.
 -- The other files of proofs/ may change at any time. Assumes nothing.
 
--- Demand 1 of the definitions: a refused command has an empty reply and leaves the state as it was; a refused event report is not stored, a refused media
--- report stores and drops 0 lines, and both leave the state as it was; a refused line test answers Unknown with type 0; a refused make is 0002h beside the new
--- device of one volatile unit.
+-- Demand 1 of the definitions (a refusal is a number other than 0000h and 0001h): a refused command has an empty reply and leaves the state that the end of a due Sanitize leaves (`ended`); a refused event
+-- report is not stored, a refused media report stores and drops 0 lines, and both leave that state; a refused line test answers Unknown with type 0; a refused make is 0002h beside the new device of one volatile unit.
 pub use Rattle.mailbox.proofs.Demand1.{refusal, event-refusal, media-refusal, line-refusal, make-refusal}
--- Demand 1 of the code: a refused command has length 0, hands back the very same device and alters no byte of the reply buffer; the device-side calls likewise.
+-- Demand 1 of the code: a refused command has length 0, leaves the device that the end of a due Sanitize leaves, the very same value where none is due (`Ends`), and alters no byte of the reply buffer; the
+-- device-side calls likewise.
+-- A number equal to a refused one is refused.
+pub use Rattle.mailbox.proofs.Demand1.{refused-too}
 pub use Rattle.mailbox.proofs.Demand1.{refusal-unaltered, event-unaltered, media-unaltered, line-unknown, make-one-unit}
+-- W-207, the end of a Sanitize: where nothing is due the device is as it was; where it is, five logs are emptied and media is enabled; so of a device of the code. The answer on the device that a call
+-- finds is the call's.
+pub use Rattle.mailbox.proofs.Endings.{ended-none, ended-due, ends-none, ends-due, after-command, after-event, after-media}
 -- A command that is answered 0000h, or that the checks before its own let through, is the command of its opcode; Clear Event Records with a payload of 6 to 2,048
 -- bytes and room for every reply is let through.
-pub use Rattle.mailbox.proofs.Accepted.{admitted-runs, accepted-runs, clear-events-admitted}
+pub use Rattle.mailbox.proofs.Accepted.{admitted-runs, allowed-runs, accepted-runs, clear-events-admitted}
 -- An address that the checks of a line do not refuse is that of a line of the device; a range that they do not refuse ends on the device.
 pub use Rattle.commands.proofs.Laws.{line-inside, range-ends}
 -- A media report that its checks do not refuse is of a type of three bits and of lines of the device.
@@ -33,7 +38,7 @@ pub use Rattle.mailbox.proofs.Raising.{Injected, logs-told, injection-l
 pub use Rattle.mailbox.proofs.Raising.{Raises, report-raises, CommandRaises, command-raises, only-inject-raises, covered-raises-none}
 -- W-204, when it is carried: an event of 128 bytes to an enabled log that holds no record carries the log's vector, and an Inject Poison that adds an entry carries 2 where log 0
 -- is such a log; so after a Clear that empties the log the next record carries the vector again.
-pub use Rattle.mailbox.proofs.Raising.{empty-raises, injection-raises, emptied-raises, emptied-injection-raises}
+pub use Rattle.mailbox.proofs.Raising.{still-empty, empty-raises, injection-raises, emptied-raises, emptied-injection-raises}
 -- W-204, the settings: of logs 0 to 3 the setting that Set Event Interrupt Policy makes has the vector that is raised; a log is enabled after it exactly where the low two
 -- bits of its byte are 1, log 4 where the payload has its byte.
 pub use Rattle.mailbox.proofs.Raising.{settings-vector, enabled-set, enabled-last}
@@ -53,5 +58,11 @@ pub use Rattle.mailbox.proofs.Labels.{past-set-refused, reserved-set-re
 -- W-206, two commands on any devices at any times: after a Set LSA that is answered Success, where nobody writes the area between, a Get LSA of the same range that is answered Success gives the data
 -- back, and one of a range apart from it gives what it gave before the Set.
 pub use Rattle.mailbox.proofs.Labels.{set-then-get, set-then-apart}
+-- W-207, in words: a Sanitize past the length check is 0001h and disables media where none runs, and 0006h while one does; while media is disabled Inject Poison, Clear Poison, Get LSA and Set LSA past theirs are
+-- 0007h, and no line is answered Clean.
+pub use Rattle.mailbox.proofs.Sanitizing.{sanitize-starts, sanitize-busy, disabled-refused, disabled-not-clean}
+-- W-207, when: a Sanitize is due from the beginning plus the duration on and not before; its end comes once, after which nothing is due at any time, and nothing is due at the time of a call on the device that it
+-- finds.
+pub use Rattle.mailbox.proofs.Sanitizing.{due-from, not-due-before, ended-once, found-not-due}
 -- To unfold `rules` is to unfold every definition of a call: on a device that is written out it then computes.
 unfoldable pub use Rattle.mailbox.proofs.Computing.{rules}

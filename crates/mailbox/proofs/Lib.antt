@@ -1,5 +1,6 @@
 -- The laws of crate `mailbox` that more than one proof cites, by subject. A crate above cites Laws alone.
 pub mod Accepted
+pub mod Endings
 pub mod Answers
 pub mod EventAnswers
 pub mod ListAnswers
@@ -10,5 +11,6 @@ pub mod Demand1
 pub mod Raising
 pub mod Reserved
 pub mod Labels
+pub mod Sanitizing
 pub mod Computing
 pub mod Laws

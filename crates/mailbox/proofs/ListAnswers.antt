@@ -32,7 +32,7 @@ module _ (d : Device) (lines : ℕ) (v : ValidDevice d) (e : lines ≡ unit-line
         code = code;
         length = 0;
         vector = None;
-        device = record { volatile = d .volatile; persistent = d .persistent; clock = d .clock; policy = d .policy; logs = d .logs; poison = r };
+        device = record { volatile = d .volatile; persistent = d .persistent; clock = d .clock; policy = d .policy; logs = d .logs; poison = r; media = d .media };
       })
       before before
   list-change {o} {o′} {code} {r} s a =

@@ -5,11 +5,10 @@ use mathlib.Core.Path.{_≡_}
 use mathlib.Core.Bool.{Bool}
 use mathlib.Core.List.{List}
 use lib.ListN.{length}
-use Rattle.wire.specs.Returns.{success}
+use Rattle.wire.specs.Returns.{Refused}
 use Rattle.wire.specs.Wire.{splice}
 use Rattle.poison.specs.State as P
 use Rattle.poison.specs.declared.list.PoisonList.{PoisonList}
-use Rattle.poison.specs.LineTest.{answer-number, answer-type}
 use Rattle.events.specs.declared.status.Status.{Status}
 use Rattle.events.specs.Status.{StatusOutcome}
 use Rattle.mailbox.specs.declared.device.Device.{Device}
@@ -20,17 +19,18 @@ use Rattle.mailbox.specs.declared.device_calls.MediaAnswer.{MediaAnswer}
 use Rattle.mailbox.specs.declared.device_calls.LineAnswer.{LineAnswer}
 use Rattle.mailbox.specs.State.{ValidDevice, state-of}
 use Rattle.commands.specs.Vector.{Carries}
+use Rattle.mailbox.specs.LineStatus.{status-number, status-type}
 use Rattle.mailbox.specs.Outcome.{Outcome}
 use Rattle.mailbox.specs.DeviceCalls.{MakeOutcome, EventOutcome, MediaOutcome, LineOutcome}
 
--- `command`: number, length, vector, next device, every byte of the buffer; the premise given back; a refusal hands back the very same device
+-- a command, on the device that it finds (`AfterEnding` says which that is): number, length, vector, next device, every byte of the buffer; the premise given back; a refusal hands back the very same device
 pub record Answered (o : Outcome) (d : Device) (r : Answer) (before after : List ℕ) : Type 0 where
   pub code : r .code ≡ o .code
   pub size : r .length ≡ length (o .reply)
   pub vector : Carries (o .vector) (r .vector)
   pub next : state-of (r .device) ≡ o .next
   pub bytes : after ≡ splice 0 (o .reply) before
-  pub refused : (r .code ≡ success → ⊥) → r .device ≡ d
+  pub refused : Refused (r .code) → r .device ≡ d
   pub valid : ValidDevice (r .device)
 
 -- `make`
@@ -45,7 +45,7 @@ pub record EventDone (o : EventOutcome) (d : Device) (r : EventAnswer) : Type 0 
   pub stored : r .stored ≡ o .stored
   pub vector : Carries (o .vector) (r .vector)
   pub next : state-of (r .device) ≡ o .next
-  pub refused : (r .code ≡ success → ⊥) → r .device ≡ d
+  pub refused : Refused (r .code) → r .device ≡ d
   pub valid : ValidDevice (r .device)
 
 -- `media_report`
@@ -54,14 +54,14 @@ pub record MediaDone (o : MediaOutcome) (d : Device) (r : MediaAnswer) : Type 0 
   pub stored : r .stored ≡ o .stored
   pub dropped : r .dropped ≡ o .dropped
   pub next : state-of (r .device) ≡ o .next
-  pub refused : (r .code ≡ success → ⊥) → r .device ≡ d
+  pub refused : Refused (r .code) → r .device ≡ d
   pub valid : ValidDevice (r .device)
 
 -- `line_test`: the enum by the definitions that give document 01's number and type for each case, which together tell the case
 pub record LineDone (o : LineOutcome) (r : LineAnswer) : Type 0 where
   pub code : r .code ≡ o .code
-  pub number : answer-number (r .answer) ≡ o .number
-  pub kind : answer-type (r .answer) ≡ o .kind
+  pub number : status-number (r .answer) ≡ o .number
+  pub kind : status-type (r .answer) ≡ o .kind
 
 -- `event_status`
 pub record StatusGiven (o : StatusOutcome) (r : Status) : Type 0 where

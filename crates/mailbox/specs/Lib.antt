@@ -1,5 +1,7 @@
 -- The definitions that the contracts of crate `mailbox` cite, by subject.
 pub mod State
+pub mod Ending
+pub mod LineStatus
 pub mod Outcome
 pub mod EventCommands
 pub mod DeviceCalls

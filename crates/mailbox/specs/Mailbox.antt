@@ -1,23 +1,25 @@
 -- What the mailbox answers to any opcode, payload, caller's time, label area and size of the reply buffer, and what it leaves of the area: demand 2 for the commands. Assumes nothing.
-use Prim.Native.Nat.{ℕ}
+use Prim.Native.Nat.{ℕ, _+_}
 use mathlib.Core.Bool.{_&&_, cond}
 use mathlib.Core.List.{List, []}
 use lib.Dec.{eqb}
 use lib.ListN.{length}
 use Rattle.labels.specs.Labels.{get-labels, set-code, set-labels}
 use Rattle.wire.specs.Wire.{field}
-use Rattle.wire.specs.Returns.{success, unsupported, need}
+use Rattle.wire.specs.Returns.{success, started, unsupported, need}
 use Rattle.commands.specs.Numbers.{mailbox-size}
-use Rattle.mailbox.specs.State.{DeviceState, lines-of, with-clock, with-policy, with-poison}
+use Rattle.mailbox.specs.State.{DeviceState, lines-of, with-clock, with-policy, with-poison, with-media}
+use Rattle.mailbox.specs.Ending.{ended}
 use Rattle.mailbox.specs.Outcome.{Outcome, reads, changes, refused}
-use Rattle.commands.specs.Commands.{admission}
+use Rattle.commands.specs.Commands.{first-code}
 use Rattle.commands.specs.Clock.{device-time, get-timestamp, set-timestamp}
+use Rattle.commands.specs.Media.{sanitize}
 use Rattle.commands.specs.Policy.{PolicyChange, get-policy, set-interrupt-policy}
 use Rattle.commands.specs.EffectsLog.{get-supported-logs, get-log}
 use Rattle.commands.specs.Identity.{identify}
 use Rattle.mailbox.specs.EventCommands.{get-event-records, clear-event-records}
 use Rattle.commands.specs.PoisonCommands.{ListChange, get-poison-list, inject-poison, inject-adds, injection-record, clear-poison}
-use Rattle.mailbox.specs.DeviceCalls.{EventOutcome, event-report}
+use Rattle.mailbox.specs.DeviceCalls.{EventOutcome, event-answer}
 
 -- the outcome of a command that changes the settings, and of one that changes the poison list
 abbrev pub changes-policy : DeviceState → PolicyChange → Outcome
@@ -39,7 +41,7 @@ injected d p = with-poison d (inject-poison (lines-of d) (d .poison) p .list)
 unfoldable pub inject : DeviceState → List ℕ → ℕ → Outcome
 inject d p time =
     cond (inject-adds (lines-of d) (d .poison) p)
-    (reports success (event-report (injected d p) time 0 (injection-record (field p 0 8))))
+    (reports success (event-answer (injected d p) time 0 (injection-record (field p 0 8))))
     (changes-list d (inject-poison (lines-of d) (d .poison) p))
 
 -- the command of an opcode, after the checks before its own
@@ -59,13 +61,18 @@ run-command d op p time area =
     (cond (eqb op 0x4300) (reads d (get-poison-list (lines-of d) (d .poison) p))
     (cond (eqb op 0x4301) (inject d p time)
     (cond (eqb op 0x4302) (changes-list d (clear-poison (lines-of d) (d .poison) p (device-time (d .clock) time)))
-    (refused unsupported d))))))))))))))
+    (cond (eqb op 0x4400) (changes started (with-media d (sanitize (d .volatile + d .persistent) time)))
+    (refused unsupported d)))))))))))))))
 
--- the answer to a command: "Order for a command", then the command
-unfoldable pub outcome : DeviceState → ℕ → List ℕ → ℕ → List ℕ → ℕ → Outcome
-outcome d op p time area room =
-    need (eqb (admission op (length p) (length area) room) success) (refused (admission op (length p) (length area) room) d)
+-- the answer to a command on the device that it finds: "Order for a command", what media disabled refuses, then the command
+unfoldable pub answer : DeviceState → ℕ → List ℕ → ℕ → List ℕ → ℕ → Outcome
+answer d op p time area room =
+    need (eqb (first-code (d .media .disabled) op (length p) (length area) room) success) (refused (first-code (d .media .disabled) op (length p) (length area) room) d)
     (run-command d op p time area)
+
+-- the answer to a command: a due Sanitize is ended first (document 02, W-207)
+abbrev pub outcome : DeviceState → ℕ → List ℕ → ℕ → List ℕ → ℕ → Outcome
+outcome d op p time area room = answer (ended d time) op p time area room
 
 -- the label area after a command that was answered with this number (document 02, W-206): Set LSA "writes the data and no other byte of the area"; no other command writes it, and no refusal
 unfoldable pub area-after : ℕ → List ℕ → ℕ → List ℕ → List ℕ

@@ -5,10 +5,11 @@ use mathlib.Core.List.{List}
 use Rattle.poison.specs.State as P
 use Rattle.events.specs.Log as E
 use Rattle.commands.specs.declared.clock.Clock.{Clock}
+use Rattle.commands.specs.declared.media.MediaState.{MediaState}
 use Rattle.mailbox.specs.declared.device.Device.{Device}
 use Rattle.commands.specs.Numbers.{unit-lines, most-units}
 
--- the units of each kind of memory; the clock; the interrupt policy, a byte a log; the five logs; the poison list
+-- the units of each kind of memory; the clock; the interrupt policy, a byte a log; the five logs; the poison list; media (document 02, W-207)
 pub record DeviceState : Type 0 where
   pub volatile : ℕ
   pub persistent : ℕ
@@ -16,6 +17,7 @@ pub record DeviceState : Type 0 where
   pub policy : List ℕ
   pub logs : List E.LogState
   pub poison : P.PoisonState
+  pub media : MediaState
 
 -- the lines of a device: volatile plus persistent units
 abbrev pub lines-of : DeviceState → ℕ
@@ -23,16 +25,19 @@ lines-of d = unit-lines * (d .volatile + d .persistent)
 
 -- the device with one part replaced
 abbrev pub with-clock : DeviceState → Clock → DeviceState
-with-clock d c = record { volatile = d .volatile; persistent = d .persistent; clock = c; policy = d .policy; logs = d .logs; poison = d .poison }
+with-clock d c = record { volatile = d .volatile; persistent = d .persistent; clock = c; policy = d .policy; logs = d .logs; poison = d .poison; media = d .media }
 
 abbrev pub with-policy : DeviceState → List ℕ → DeviceState
-with-policy d p = record { volatile = d .volatile; persistent = d .persistent; clock = d .clock; policy = p; logs = d .logs; poison = d .poison }
+with-policy d p = record { volatile = d .volatile; persistent = d .persistent; clock = d .clock; policy = p; logs = d .logs; poison = d .poison; media = d .media }
 
 abbrev pub with-logs : DeviceState → List E.LogState → DeviceState
-with-logs d ls = record { volatile = d .volatile; persistent = d .persistent; clock = d .clock; policy = d .policy; logs = ls; poison = d .poison }
+with-logs d ls = record { volatile = d .volatile; persistent = d .persistent; clock = d .clock; policy = d .policy; logs = ls; poison = d .poison; media = d .media }
 
 abbrev pub with-poison : DeviceState → P.PoisonState → DeviceState
-with-poison d l = record { volatile = d .volatile; persistent = d .persistent; clock = d .clock; policy = d .policy; logs = d .logs; poison = l }
+with-poison d l = record { volatile = d .volatile; persistent = d .persistent; clock = d .clock; policy = d .policy; logs = d .logs; poison = l; media = d .media }
+
+abbrev pub with-media : DeviceState → MediaState → DeviceState
+with-media d m = record { volatile = d .volatile; persistent = d .persistent; clock = d .clock; policy = d .policy; logs = d .logs; poison = d .poison; media = m }
 
 -- the view of a device of the code
 abbrev pub state-of : Device → DeviceState
@@ -44,6 +49,7 @@ state-of d =
       policy = d .policy;
       logs = E.states-of (d .logs);
       poison = P.state-of (d .poison);
+      media = d .media;
     }
 
 -- a device made here and changed only by these calls: 1 to 1,023 units, five valid logs, a valid poison list on its lines

@@ -1,8 +1,10 @@
 // The device: what it holds, how it is made, and its mailbox.
 use crate::by_parts;
 use commands::clock::Clock;
+use commands::media::MediaState;
 use commands::vector;
 use commands::vector::Vector;
+use events::empty;
 use events::log;
 use events::log::Log;
 use poison::list::PoisonList;
@@ -12,8 +14,10 @@ ghost use Prim.Native.Nat.{_+_, _≤_};
 ghost use lib.ListN.{length};
 ghost use Rattle.commands.specs.Numbers.{most-units};
 ghost use Rattle.mailbox.specs.State.{ValidDevice, state-of};
-ghost use Rattle.mailbox.specs.Mailbox.{outcome, area-after};
+ghost use Rattle.mailbox.specs.Mailbox.{answer, outcome, area-after};
+ghost use Rattle.mailbox.specs.Ending.{Ends, AfterEnding};
 ghost use Rattle.mailbox.specs.DeviceCalls.{make, new-device};
+ghost use Rattle.mailbox.specs.declared.device.Device.{Device};
 ghost use Rattle.mailbox.specs.Contracts.{Answered, Makes};
 
 // The fields are public, and laid out as C does, for crate `embed` alone: it has a device behind a C program's pointer, and lends or copies out the parts that `by_parts` asks for
@@ -26,6 +30,7 @@ pub struct Device {
     pub policy: [u8; 5],
     pub logs: [Log; 5],
     pub poison: PoisonList,
+    pub media: MediaState,
 }
 
 // The answer to a command: the return number, the length of the reply, the device that follows, and the vector to raise (document 02, W-204). The vector stands last:
@@ -44,12 +49,13 @@ pub struct Made {
 }
 
 impl Device {
-    // A new device of so many units: the clock not set, every interrupt disabled, five empty logs and an empty poison list.
+    // A new device of so many units: the clock not set, every interrupt disabled, five empty logs, an empty poison list and media enabled.
     fn new(volatile: u16, persistent: u16) -> Device
         requires { ⌜ (1 ≤ volatile + persistent) × (volatile + persistent ≤ most-units) ⌝ }
         ensures { λ r. ⌜ (state-of r ≡ new-device volatile persistent) × ValidDevice r ⌝ }
     {
         let clock = Clock::unset();
+        let media = MediaState::enabled();
         let logs = log::new_logs();
         let poison = PoisonList::new();
         Device {
@@ -59,6 +65,7 @@ impl Device {
             policy: [0u8; 5],
             logs,
             poison,
+            media,
         }
     }
 
@@ -85,9 +92,42 @@ impl Device {
         }
     }
 
-    // The device's answer to a command, with the caller's time; the reply is written to the lent buffer, and the label area that the caller lends is written by Set LSA alone. The part that the command sees is taken out and put back, and the
-    // answer is made once after that: each further device handed over would be a copy of some 7.6 KB.
+    // The device that a call at the caller's time finds: a due Sanitize is ended, so that the logs are empty and media is enabled (document 02, W-207).
+    pub(crate) fn ended(mut self, time: u64) -> Device
+        requires { ⌜ ValidDevice self ⌝ }
+        ensures { λ r. ⌜ Ends self time r ⌝ }
+    {
+        let media = self.media;
+        if !media.due(time) {
+            return self;
+        }
+        let logs = self.logs;
+        let emptied = empty::emptied_logs(logs);
+        let enabled = MediaState::enabled();
+        self.logs = emptied;
+        self.media = enabled;
+        self
+    }
+
+    // The device's answer to a command, with the caller's time; the reply is written to the lent buffer, and the label area that the caller lends is written by Set LSA alone.
     pub fn command(
+        self,
+        opcode: u16,
+        payload: &[u8],
+        time: u64,
+        area: &mut [u8],
+        reply: &mut [u8],
+    ) -> Answer
+        requires { ⌜ ValidDevice self ⌝ }
+        ensures { λ r. ⌜ AfterEnding self time (λ (e : Device). Answered (outcome (state-of self) opcode (now (payload .entry)) time (now (area .entry)) (length (now (reply .entry)))) e r (now (reply .entry)) (now (reply .exit))) × (now (area .exit) ≡ area-after opcode (now (payload .entry)) (r .code) (now (area .entry))) ⌝ }
+    {
+        let found = self.ended(time);
+        found.answer(opcode, payload, time, area, reply)
+    }
+
+    // The same where no Sanitize is left to end. The part that the command sees is taken out and put back, and the
+    // answer is made once after that: each further device handed over would be a copy of some 7.6 KB.
+    fn answer(
         mut self,
         opcode: u16,
         payload: &[u8],
@@ -96,16 +136,18 @@ impl Device {
         reply: &mut [u8],
     ) -> Answer
         requires { ⌜ ValidDevice self ⌝ }
-        ensures { λ r. ⌜ Answered (outcome (state-of self) opcode (now (payload .entry)) time (now (area .entry)) (length (now (reply .entry)))) self r (now (reply .entry)) (now (reply .exit)) × (now (area .exit) ≡ area-after opcode (now (payload .entry)) (r .code) (now (area .entry))) ⌝ }
+        ensures { λ r. ⌜ Answered (answer (state-of self) opcode (now (payload .entry)) time (now (area .entry)) (length (now (reply .entry)))) self r (now (reply .entry)) (now (reply .exit)) × (now (area .exit) ≡ area-after opcode (now (payload .entry)) (r .code) (now (area .entry))) ⌝ }
     {
         let volatile = self.volatile;
         let persistent = self.persistent;
         let clock = self.clock;
+        let media = self.media;
+        let disabled = media.disabled;
         let mut code = returns::SUCCESS;
         let mut length: usize = 0;
         let mut vector = Vector::None;
         if by_parts::of_area(opcode, area.len()) {
-            let done = by_parts::area_command(opcode, payload, area, reply);
+            let done = by_parts::area_command(disabled, opcode, payload, area, reply);
             code = done.code;
             length = done.length;
         } else if by_parts::of_list(opcode) {
@@ -115,6 +157,7 @@ impl Device {
                 clock,
                 volatile,
                 persistent,
+                disabled,
                 opcode,
                 payload,
                 time,
@@ -135,6 +178,7 @@ impl Device {
                 policy,
                 volatile,
                 persistent,
+                disabled,
                 payload,
                 time,
                 reply,
@@ -160,6 +204,7 @@ impl Device {
                 persistent,
                 clock,
                 policy,
+                media,
                 opcode,
                 payload,
                 time,
@@ -167,8 +212,10 @@ impl Device {
             );
             let next = parts.clock;
             let settings = parts.policy;
+            let following = parts.media;
             self.clock = next;
             self.policy = settings;
+            self.media = following;
             code = parts.code;
             length = parts.length;
         }

@@ -3,15 +3,18 @@
 // second answer for a refusal, parts that do not change would be copied too.
 use crate::by_parts;
 use crate::device::Device;
+use crate::line_status;
+use crate::line_status::LineStatus;
 use commands::vector;
 use commands::vector::Vector;
 use events::status;
 use events::status::Status;
-use poison::line_test::LineTest;
 use wire::returns;
 ghost use mathlib.Core.Path.{_≡_};
 ghost use Rattle.mailbox.specs.State.{ValidDevice, state-of};
-ghost use Rattle.mailbox.specs.DeviceCalls.{event-report, media-report, line-test, event-status, damage-total};
+ghost use Rattle.mailbox.specs.DeviceCalls.{event-answer, event-report, media-answer, media-report, line-test, event-status, damage-total};
+ghost use Rattle.mailbox.specs.Ending.{AfterEnding};
+ghost use Rattle.mailbox.specs.declared.device.Device.{Device};
 ghost use Rattle.mailbox.specs.Contracts.{EventDone, MediaDone, LineDone, StatusGiven};
 
 pub struct EventAnswer {
@@ -30,14 +33,23 @@ pub struct MediaAnswer {
 
 pub struct LineAnswer {
     pub code: u16,
-    pub answer: LineTest,
+    pub answer: LineStatus,
 }
 
 impl Device {
     // Event report of a record to a log, at the caller's time.
-    pub fn event_report(mut self, time: u64, log: u8, event: &[u8]) -> EventAnswer
+    pub fn event_report(self, time: u64, log: u8, event: &[u8]) -> EventAnswer
         requires { ⌜ ValidDevice self ⌝ }
-        ensures { λ r. ⌜ EventDone (event-report (state-of self) time log (now (event .entry))) self r ⌝ }
+        ensures { λ r. ⌜ AfterEnding self time (λ (e : Device). EventDone (event-report (state-of self) time log (now (event .entry))) e r) ⌝ }
+    {
+        let found = self.ended(time);
+        found.event_answer(time, log, event)
+    }
+
+    // The same where no Sanitize is left to end.
+    fn event_answer(mut self, time: u64, log: u8, event: &[u8]) -> EventAnswer
+        requires { ⌜ ValidDevice self ⌝ }
+        ensures { λ r. ⌜ EventDone (event-answer (state-of self) time log (now (event .entry))) self r ⌝ }
     {
         let clock = self.clock;
         let policy = self.policy;
@@ -58,7 +70,16 @@ impl Device {
     // Media report of damage: so many lines from an address on, of a type, at the caller's time.
     pub fn media_report(self, time: u64, address: u64, lines: u32, kind: u8) -> MediaAnswer
         requires { ⌜ ValidDevice self ⌝ }
-        ensures { λ r. ⌜ MediaDone (media-report (state-of self) time address lines kind) self r ⌝ }
+        ensures { λ r. ⌜ AfterEnding self time (λ (e : Device). MediaDone (media-report (state-of self) time address lines kind) e r) ⌝ }
+    {
+        let found = self.ended(time);
+        found.media_answer(time, address, lines, kind)
+    }
+
+    // The same where no Sanitize is left to end.
+    fn media_answer(self, time: u64, address: u64, lines: u32, kind: u8) -> MediaAnswer
+        requires { ⌜ ValidDevice self ⌝ }
+        ensures { λ r. ⌜ MediaDone (media-answer (state-of self) time address lines kind) self r ⌝ }
     {
         let clock = self.clock;
         let list = self.poison;
@@ -92,13 +113,21 @@ impl Device {
         if code != returns::SUCCESS {
             return LineAnswer {
                 code,
-                answer: LineTest::Unknown,
+                answer: LineStatus::Unknown,
+            };
+        }
+        let media = self.media;
+        if media.disabled {
+            return LineAnswer {
+                code: returns::SUCCESS,
+                answer: LineStatus::Disabled,
             };
         }
         let list = self.poison;
+        let answer = list.test((address / 64) as u32);
         LineAnswer {
             code: returns::SUCCESS,
-            answer: list.test((address / 64) as u32),
+            answer: line_status::status_of(answer),
         }
     }
 

@@ -4,35 +4,13 @@ use crate::search;
 ghost use mathlib.Core.Path.{_≡_};
 ghost use lib.ListN.{length};
 ghost use Rattle.poison.specs.State.{state-of, capacity, ValidRuns, ValidList};
-ghost use Rattle.poison.specs.LineTest.{line-test, list-in, answer-number, answer-type};
+ghost use Rattle.poison.specs.LineTest.{line-test, list-in};
 
 // What the host is told of a line; document 01's numbers are `answer-number` and `answer-type`.
 pub enum LineTest {
     Clean,
     Damaged(u8),
     Unknown,
-}
-
-// The number of an answer.
-pub fn answer_number(answer: LineTest) -> u64
-    ensures { λ r. ⌜ r ≡ answer-number answer ⌝ }
-{
-    match answer {
-        LineTest::Clean => 0,
-        LineTest::Damaged(_) => 1,
-        LineTest::Unknown => 2,
-    }
-}
-
-// The type that goes with an answer: 0 if not damaged.
-pub fn answer_kind(answer: LineTest) -> u64
-    ensures { λ r. ⌜ r ≡ answer-type answer ⌝ }
-{
-    match answer {
-        LineTest::Clean => 0,
-        LineTest::Damaged(kind) => kind as u64,
-        LineTest::Unknown => 0,
-    }
 }
 
 // Line test of a line, over the arrays of a list: lent from where the list lies, they are not copied.

@@ -15,10 +15,11 @@ use Rattle.mailbox.specs.declared.device_calls.EventAnswer.{EventAnswer}
 use Rattle.mailbox.specs.declared.device_calls.MediaAnswer.{MediaAnswer}
 use Rattle.mailbox.specs.declared.device_calls.LineAnswer.{LineAnswer}
 use Rattle.mailbox.specs.State.{DeviceState, ValidDevice, state-of}
+use Rattle.mailbox.specs.Ending.{AfterEnding}
+use Rattle.mailbox.specs.LineStatus.{status-number, status-type}
 use Rattle.commands.specs.Vector.{vector-number}
 use Rattle.mailbox.specs.DeviceCalls.{event-status, damage-total}
 use Rattle.mailbox.specs.Contracts.{Answered, Makes, EventDone, MediaDone, LineDone, StatusGiven}
-use Rattle.poison.specs.LineTest.{answer-number, answer-type}
 use Rattle.protocol.specs.declared.calls.Served.{Served}
 use Rattle.protocol.specs.Text.{column, line-end, numbers-line}
 use Rattle.protocol.specs.Records.{mark-of, NW, CM, EV, MD, LT, ES, DT, RQ, RP, RW, WK}
@@ -42,9 +43,11 @@ pub filled-long : (bytes buffer : List ℕ) → length buffer ≡ field bytes 12
 filled-long bytes buffer e = e ∙ sym (length-replicate (field bytes 12 2) (getD bytes 14 0))
 
 -- whatever a command answers, the bytes that its reply leaves of the buffer are still as they were filled: the column `kept` of every CM line is 1
-pub command-kept : (bytes area after : List ℕ) {d : Device} {a : Answer} → Answered (command-call (state-of d) area bytes) d a (filled bytes) after → length after ≡ length (filled bytes)
+pub command-kept : (bytes area after : List ℕ) {d : Device} {a : Answer}
+    → AfterEnding d (field bytes 2 8) (λ (f : Device). Answered (command-call (state-of d) area bytes) f a (filled bytes) after) → length after ≡ length (filled bytes)
     → still (getD bytes 14 0) (drop (a .length) after) ≡ true
-command-kept bytes area after {d} told kept =
+command-kept bytes area after {d} call kept =
+    let told = call .done in
     ap₂ (λ (n : ℕ) (b : List ℕ). still (getD bytes 14 0) (drop n b)) (told .size) (told .bytes)
     ∙ always-kept (getD bytes 14 0) (field bytes 12 2) (command-call (state-of d) area bytes .reply)
     (omega (arith, told .size, reply-fits told kept, kept, length-replicate (field bytes 12 2) (getD bytes 14 0)))
@@ -66,37 +69,42 @@ command-put code n fill vector buffer start last end room =
     record { puts = puts-then (puts-then start last (omega (arith, last .end))) end (omega arith); room = omega (arith, end .end) }
 
 pub command-served : (bytes area reply : List ℕ) {d : Device} {a : Answer} {before after : List ℕ} {used e vector : ℕ}
-    → Answered (command-call (state-of d) area bytes) d a (filled bytes) reply
+    → AfterEnding d (field bytes 2 8) (λ (f : Device). Answered (command-call (state-of d) area bytes) f a (filled bytes) reply)
     → vector ≡ vector-number (a .vector) → PutsLine used (command-line (a .code) (a .length) (getD bytes 14 0) reply vector) before after e
     → Serves (serve-command (state-of d) area bytes) used (record { used = e; device = a .device }) before after
 unfolding serve-command
-command-served bytes area reply told number put =
+command-served bytes area reply call number put =
+    let told = call .done in
     record {
       line = puts-line-as put (λ i. command-line (told .code i) (told .size i) (getD bytes 14 0) (told .bytes i) ((number ∙ told .vector .number) i));
       next = told .next;
       valid = told .valid;
     }
 
-pub event-served : (bytes : List ℕ) {d : Device} {a : EventAnswer} {before after : List ℕ} {used e stored vector : ℕ} → EventDone (event-call (state-of d) bytes) d a
+pub event-served : (bytes : List ℕ) {d : Device} {a : EventAnswer} {before after : List ℕ} {used e stored vector : ℕ}
+    → AfterEnding d (field bytes 2 8) (λ (f : Device). EventDone (event-call (state-of d) bytes) f a)
     → stored ≡ cond (a .stored) 1 0 → vector ≡ vector-number (a .vector) → PutsLine used (numbers-line EV (a .code ∷ stored ∷ vector ∷ [])) before after e
     → Serves (serve-event (state-of d) bytes) used (record { used = e; device = a .device }) before after
 unfolding serve-event
-event-served bytes told bit number put =
+event-served bytes call bit number put =
+    let told = call .done in
     record {
       line = puts-line-as put (λ i. numbers-line EV (told .code i ∷ (bit ∙ ap (λ (b : Bool). cond b 1 0) (told .stored)) i ∷ (number ∙ told .vector .number) i ∷ []));
       next = told .next;
       valid = told .valid;
     }
 
-pub media-served : (bytes : List ℕ) {d : Device} {a : MediaAnswer} {before after : List ℕ} {used e : ℕ} → MediaDone (media-call (state-of d) bytes) d a
+pub media-served : (bytes : List ℕ) {d : Device} {a : MediaAnswer} {before after : List ℕ} {used e : ℕ}
+    → AfterEnding d (field bytes 2 8) (λ (f : Device). MediaDone (media-call (state-of d) bytes) f a)
     → PutsLine used (numbers-line MD (a .code ∷ a .stored ∷ a .dropped ∷ [])) before after e
     → Serves (serve-media (state-of d) bytes) used (record { used = e; device = a .device }) before after
 unfolding serve-media
-media-served bytes told put =
+media-served bytes call put =
+    let told = call .done in
     record { line = puts-line-as put (λ i. numbers-line MD (told .code i ∷ told .stored i ∷ told .dropped i ∷ [])); next = told .next; valid = told .valid }
 
 pub line-served : (bytes : List ℕ) (d : Device) {a : LineAnswer} {before after : List ℕ} {used e x y : ℕ} → LineDone (line-call (state-of d) bytes) a
-    → x ≡ answer-number (a .answer) → y ≡ answer-type (a .answer) → PutsLine used (numbers-line LT (a .code ∷ x ∷ y ∷ [])) before after e → ValidDevice d
+    → x ≡ status-number (a .answer) → y ≡ status-type (a .answer) → PutsLine used (numbers-line LT (a .code ∷ x ∷ y ∷ [])) before after e → ValidDevice d
     → Serves (serve-line (state-of d) bytes) used (record { used = e; device = d }) before after
 unfolding serve-line
 line-served bytes d told ex ey put valid =

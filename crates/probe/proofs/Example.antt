@@ -1,7 +1,7 @@
--- An example of the probe program, from the bytes of its input to the bytes of its output, by computation with the definitions that the contracts cite: a refused
+-- Examples of the probe program, from the bytes of its input to the bytes of its output, by computation with the definitions that the contracts cite: a refused
 -- make whose device is used on, refused calls with their whole answers, a buffer too small and one large enough, status and total, a walk, requests and replies of the
 -- host library, a later make, a vector raised by a report and one by an injection, a report that raises none, labels written and read, a label area of another size that a
--- make leaves as it is, and a mark that is not there yet. Assumes nothing.
+-- make leaves as it is, and a mark that is not there yet; and one of a Sanitize. Assumes nothing.
 use mathlib.Core.Path.{_≡_, refl}
 use mathlib.Core.List.{List, [], _∷_, _++_}
 use Prim.Native.Nat.{ℕ}
@@ -26,6 +26,11 @@ use Rattle.host_records.specs.HostRewrites.{read-then, written-again, serve-aga
 use Rattle.host_records.specs.HostWalks.{serve-walk}
 use Rattle.probe.specs.LabelRecords.{kept-first, serve-area, serve-bytes}
 use Rattle.probe.specs.Calls.{serve-new, serve-command, serve-lent, serve-event, serve-media, serve-line, serve-status, serve-total, serve-device, serve-record, probe}
+
+-- to unfold this is to unfold every definition of the line below
+unfoldable steps : Unit {0}
+unfolding printed rules numeral columns hex bad-line last-line whole tells front-size fixed head size probe-least probe-fixed probe-head probe-within probe-rest probe-size still buffer-columns buffer-line serve-new serve-command serve-lent serve-area serve-bytes serve-event serve-media serve-line serve-status serve-total serve-request serve-walk serve-reply reply-line line-of refusal-line each-of record-columns serve-again written-again read-then read-timestamp write-bytes read-poison-list list-fields poison-record verdict counted first-reserved reserved record-reserved header-size record-size count-place serve-device serve-record request-head request-within request-rest written-line request-built request-of build payload countable handles-at clear-payload handle-bytes walk-on walk walked halves
+steps = tt
 
 -- "NW 0 0; LT at the last line of one unit, and past it; CM 0300h with a room of 0, and of 2,048 bytes of 55h; EV of one byte; MD of type 3; MD address 64, 2 lines,
 -- type 1; DT; ES; WK address 0, 4 lines, with a room of 17 bytes of AAh, and of 15; RQ 0100h log 3; RQ 0301h with a room of 7; RQ 0101h log 1 and handles 1, 2;
@@ -117,5 +122,41 @@ output =
 
 -- the definitions give these lines
 example : printed probe 40 (kept-first (new-device 1 0)) 0 input ≡ output
-unfolding printed input output rules numeral columns hex bad-line last-line whole tells front-size fixed head size probe-least probe-fixed probe-head probe-within probe-rest probe-size still buffer-columns buffer-line serve-new serve-command serve-lent serve-area serve-bytes serve-event serve-media serve-line serve-status serve-total serve-request serve-walk serve-reply reply-line line-of refusal-line each-of record-columns serve-again written-again read-then read-timestamp write-bytes read-poison-list list-fields poison-record verdict counted first-reserved reserved record-reserved header-size record-size count-place serve-device serve-record request-head request-within request-rest written-line request-built request-of build payload countable handles-at clear-payload handle-bytes walk-on walk walked halves
+unfolding steps input output
 example = refl
+
+-- Document 02, W-207: on one unit a Sanitize takes 4 seconds. NW 1 0; MD address 0, 1 line, type 2; EV of 128 zero bytes to log 0; CM time 1, 4400h; LT 0; ES; CM time 4,000,000,000, 4102h of 1 byte at
+-- offset 0; LT 0; the CM at time 4,000,000,001; LT 0; ES
+sanitize-input : List ℕ
+sanitize-input =
+    (78 ∷ 87 ∷ 1 ∷ 0 ∷ 0 ∷ 0 ∷ [])
+    ++ (77 ∷ 68 ∷ []) ++ replicate 16 0 ++ (1 ∷ 0 ∷ 0 ∷ 0 ∷ 2 ∷ [])
+    ++ (69 ∷ 86 ∷ []) ++ replicate 8 0 ++ (0 ∷ 128 ∷ 0 ∷ []) ++ replicate 128 0
+    ++ (67 ∷ 77 ∷ 1 ∷ 0 ∷ 0 ∷ 0 ∷ 0 ∷ 0 ∷ 0 ∷ 0 ∷ 0 ∷ 68 ∷ 0 ∷ 8 ∷ 85 ∷ 0 ∷ 0 ∷ [])
+    ++ (76 ∷ 84 ∷ []) ++ replicate 8 0
+    ++ (69 ∷ 83 ∷ [])
+    ++ (67 ∷ 77 ∷ 0 ∷ 40 ∷ 107 ∷ 238 ∷ 0 ∷ 0 ∷ 0 ∷ 0 ∷ 2 ∷ 65 ∷ 0 ∷ 8 ∷ 85 ∷ 8 ∷ 0 ∷ 0 ∷ 0 ∷ 0 ∷ 0 ∷ 1 ∷ 0 ∷ 0 ∷ 0 ∷ [])
+    ++ (76 ∷ 84 ∷ []) ++ replicate 8 0
+    ++ (67 ∷ 77 ∷ 1 ∷ 40 ∷ 107 ∷ 238 ∷ 0 ∷ 0 ∷ 0 ∷ 0 ∷ 2 ∷ 65 ∷ 0 ∷ 8 ∷ 85 ∷ 8 ∷ 0 ∷ 0 ∷ 0 ∷ 0 ∷ 0 ∷ 1 ∷ 0 ∷ 0 ∷ 0 ∷ [])
+    ++ (76 ∷ 84 ∷ []) ++ replicate 8 0
+    ++ (69 ∷ 83 ∷ [])
+
+-- "NW 0", "MD 0 1 0", "EV 0 1 0", "CM 1 0 - 1 0", "LT 0 3 0", "ES 1 1 0", "CM 7 0 - 1 0", "LT 0 3 0", "CM 0 1 00 1 0", "LT 0 1 2", "ES 0 0 5": started; then Disabled and 0007h while
+-- it runs; at the due time the command ends it: the line test answers again, and no log waits
+sanitize-output : List ℕ
+sanitize-output =
+    (78 ∷ 87 ∷ 32 ∷ 48 ∷ 10 ∷ [])
+    ++ (77 ∷ 68 ∷ 32 ∷ 48 ∷ 32 ∷ 49 ∷ 32 ∷ 48 ∷ 10 ∷ [])
+    ++ (69 ∷ 86 ∷ 32 ∷ 48 ∷ 32 ∷ 49 ∷ 32 ∷ 48 ∷ 10 ∷ [])
+    ++ (67 ∷ 77 ∷ 32 ∷ 49 ∷ 32 ∷ 48 ∷ 32 ∷ 45 ∷ 32 ∷ 49 ∷ 32 ∷ 48 ∷ 10 ∷ [])
+    ++ (76 ∷ 84 ∷ 32 ∷ 48 ∷ 32 ∷ 51 ∷ 32 ∷ 48 ∷ 10 ∷ [])
+    ++ (69 ∷ 83 ∷ 32 ∷ 49 ∷ 32 ∷ 49 ∷ 32 ∷ 48 ∷ 10 ∷ [])
+    ++ (67 ∷ 77 ∷ 32 ∷ 55 ∷ 32 ∷ 48 ∷ 32 ∷ 45 ∷ 32 ∷ 49 ∷ 32 ∷ 48 ∷ 10 ∷ [])
+    ++ (76 ∷ 84 ∷ 32 ∷ 48 ∷ 32 ∷ 51 ∷ 32 ∷ 48 ∷ 10 ∷ [])
+    ++ (67 ∷ 77 ∷ 32 ∷ 48 ∷ 32 ∷ 49 ∷ 32 ∷ 48 ∷ 48 ∷ 32 ∷ 49 ∷ 32 ∷ 48 ∷ 10 ∷ [])
+    ++ (76 ∷ 84 ∷ 32 ∷ 48 ∷ 32 ∷ 49 ∷ 32 ∷ 50 ∷ 10 ∷ [])
+    ++ (69 ∷ 83 ∷ 32 ∷ 48 ∷ 32 ∷ 48 ∷ 32 ∷ 53 ∷ 10 ∷ [])
+
+sanitize-example : printed probe 20 (kept-first (new-device 1 0)) 0 sanitize-input ≡ sanitize-output
+unfolding steps sanitize-input sanitize-output
+sanitize-example = refl

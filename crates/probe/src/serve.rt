@@ -11,7 +11,7 @@ use host_records::walks;
 use mailbox::device::Answer;
 use mailbox::device::Device;
 use mailbox::device_calls::EventAnswer;
-use poison::line_test;
+use mailbox::line_status;
 use protocol::calls;
 use protocol::calls::Served;
 use protocol::formats;
@@ -24,7 +24,9 @@ ghost use mathlib.Core.Path.{_≡_};
 ghost use Prim.Native.Nat.{_+_, _≤_, _<_};
 ghost use lib.ListN.{length};
 ghost use Rattle.wire.specs.Wire.{field};
+ghost use Rattle.mailbox.specs.declared.device.Device.{Device};
 ghost use Rattle.mailbox.specs.State.{ValidDevice, state-of};
+ghost use Rattle.mailbox.specs.Ending.{AfterEnding};
 ghost use Rattle.mailbox.specs.Contracts.{Answered, EventDone};
 ghost use Rattle.mailbox.specs.DeviceCalls.{new-device};
 ghost use Rattle.protocol.specs.Stream.{unread};
@@ -63,7 +65,7 @@ fn make(bytes: &[u8], out: &mut [u8], used: usize) -> Served
 // CM (time 8, opcode 2, room 2, fill 1, length 2, payload): the call, with the label area lent and a buffer of `room` bytes.
 fn call_command(device: Device, bytes: &[u8], area: &mut [u8], reply: &mut [u8]) -> Answer
     requires { ⌜ ValidDevice device × (17 ≤ length (now bytes)) × (length (now reply) ≡ field (now bytes) 12 2) ⌝ }
-    ensures { λ r. ⌜ Answered (command-call (state-of device) (now (area .entry)) (now (bytes .entry))) device r (filled (now (bytes .entry))) (now (reply .exit)) × (now (area .exit) ≡ area-left (now (area .entry)) (now (bytes .entry)) (r .code)) ⌝ }
+    ensures { λ r. ⌜ AfterEnding device (field (now (bytes .entry)) 2 8) (λ (e : Device). Answered (command-call (state-of device) (now (area .entry)) (now (bytes .entry))) e r (filled (now (bytes .entry))) (now (reply .exit))) × (now (area .exit) ≡ area-left (now (area .entry)) (now (bytes .entry)) (r .code)) ⌝ }
 {
     let time = wire::get(bytes, 2, 8);
     let opcode = wire::get(bytes, 10, 2) as u16;
@@ -138,7 +140,7 @@ fn command_lent(
 // EV (time 8, log 1, length 2, record): the call.
 fn call_event(device: Device, bytes: &[u8]) -> EventAnswer
     requires { ⌜ ValidDevice device × (13 ≤ length (now bytes)) ⌝ }
-    ensures { λ r. ⌜ EventDone (event-call (state-of device) (now (bytes .entry))) device r ⌝ }
+    ensures { λ r. ⌜ AfterEnding device (field (now (bytes .entry)) 2 8) (λ (e : Device). EventDone (event-call (state-of device) (now (bytes .entry))) e r) ⌝ }
 {
     let time = wire::get(bytes, 2, 8);
     device.event_report(time, bytes[10], &bytes[13..])
@@ -189,8 +191,8 @@ fn line(device: Device, bytes: &[u8], out: &mut [u8], used: usize) -> Served
     let told = calls::line(device, bytes);
     let answer = told.answer;
     let code = told.code as u64;
-    let number = line_test::answer_number(answer);
-    let kind = line_test::answer_kind(answer);
+    let number = line_status::status_number(answer);
+    let kind = line_status::status_type(answer);
     let numbers = [code, number, kind];
     let end = output::put_numbers(out, used, b'L', b'T', &numbers);
     Served { used: end, device }

@@ -6,7 +6,10 @@ use mailbox::device_calls::MediaAnswer;
 ghost use mathlib.Core.Path.{_≡_};
 ghost use Prim.Native.Nat.{_≤_};
 ghost use lib.ListN.{length};
+ghost use Rattle.wire.specs.Wire.{field};
+ghost use Rattle.mailbox.specs.declared.device.Device.{Device};
 ghost use Rattle.mailbox.specs.State.{ValidDevice, state-of};
+ghost use Rattle.mailbox.specs.Ending.{AfterEnding};
 ghost use Rattle.mailbox.specs.Contracts.{Makes, MediaDone, LineDone};
 ghost use Rattle.protocol.specs.Calls.{new-call, media-call, line-call};
 
@@ -29,7 +32,7 @@ pub fn make(bytes: &[u8]) -> Made
 // MD (time 8, address 8, lines 4, type 1).
 pub fn media(device: Device, bytes: &[u8]) -> MediaAnswer
     requires { ⌜ ValidDevice device × (23 ≤ length (now bytes)) ⌝ }
-    ensures { λ r. ⌜ MediaDone (media-call (state-of device) (now (bytes .entry))) device r ⌝ }
+    ensures { λ r. ⌜ AfterEnding device (field (now (bytes .entry)) 2 8) (λ (e : Device). MediaDone (media-call (state-of device) (now (bytes .entry))) e r) ⌝ }
 {
     let time = wire::get(bytes, 2, 8);
     let address = wire::get(bytes, 10, 8);

@@ -1,9 +1,17 @@
 // The return numbers (document 01, "Return numbers"), each named once for every layer; `specs/Returns.antt` has them for the definitions.
 pub const SUCCESS: u16 = 0;
 
+// A Sanitize was started (document 02, W-207): no refusal.
+pub const STARTED: u16 = 0x1;
+
 pub const INVALID_INPUT: u16 = 0x2;
 
 pub const UNSUPPORTED: u16 = 0x3;
+
+// A Sanitize while one runs; a command that media which is disabled does not allow (document 02, W-207).
+pub const BUSY: u16 = 0x6;
+
+pub const MEDIA_DISABLED: u16 = 0x7;
 
 pub const INVALID_HANDLE: u16 = 0xe;
 

@@ -14,7 +14,7 @@ use crate::probe::record::Record;
 pub const LOG_NAMES: [&str; 5] = ["Info", "Warning", "Failure", "Fatal", "Dynamic Capacity"];
 /// What the `stored` of an event report and the `answer` of a line test mean.
 const STORED: [&str; 2] = ["not-stored", "stored"];
-const ANSWERS: [&str; 3] = ["clean", "damaged", "unknown"];
+const ANSWERS: [&str; 4] = ["clean", "damaged", "unknown", "disabled"];
 /// The words of a line that is no answer of the record.
 const NO_ANSWER: [&str; 3] = ["nothing", "bad", "unreadable"];
 

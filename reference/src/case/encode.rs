@@ -34,7 +34,7 @@ impl Case {
 }
 
 /// The names of the commands, as the case text writes them.
-pub const COMMANDS: [(&str, u16); 14] = [
+pub const COMMANDS: [(&str, u16); 15] = [
     ("get-event-records", opcode::GET_EVENT_RECORDS),
     ("clear-event-records", opcode::CLEAR_EVENT_RECORDS),
     ("get-event-interrupt-policy", opcode::GET_POLICY),
@@ -49,6 +49,7 @@ pub const COMMANDS: [(&str, u16); 14] = [
     ("get-poison-list", opcode::GET_POISON_LIST),
     ("inject-poison", opcode::INJECT_POISON),
     ("clear-poison", opcode::CLEAR_POISON),
+    ("sanitize", opcode::SANITIZE),
 ];
 
 /// The case of a text.

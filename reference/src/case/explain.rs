@@ -182,6 +182,8 @@ fn line_test(answer: &Answer) -> String {
     let word = answer.words.last().map_or("?", |word| word);
     match refusal(answer) {
         None if word == "damaged" => format!("damaged, type {}", type_words(kind)),
+        None if word == "disabled" && kind == "0" => "disabled: a Sanitize runs".to_string(),
+        None if word == "disabled" => format!("disabled, BUT type {}", type_words(kind)),
         None => word.to_string(),
         Some(refused) if answer.field("answer").is_none() => refused,
         Some(refused) if (word, kind) == ("unknown", "0") => format!("{refused}, unknown, type 0"),
@@ -221,14 +223,23 @@ fn type_words(kind: &str) -> String {
 
 fn command_head(code: u16, answer: &Answer) -> String {
     let length = answer.number("length").unwrap_or(0);
-    if let Some(refused) = refusal(answer) {
+    // "0001h, started .. that is no refusal" (W-207). Sanitize alone answers it, and it does
+    // not answer 0000h.
+    let sanitizes = code == opcode::SANITIZE;
+    let head = match (answer.has("started"), sanitizes) {
+        (true, true) => "started (0001h)",
+        (true, false) => "BUT STARTED (0001h)",
+        (false, true) if answer.has("success") => "BUT SUCCESS, not started",
+        _ => "success",
+    };
+    if let Some(refused) = refusal(answer).filter(|_| head == "success") {
         return format!("{refused}: length {length}");
     }
     let name = COMMANDS.iter().find(|(_, known)| *known == code);
     let name = name.map_or(format!("opcode {code:04X}h"), |(name, _)| name.to_string());
     match length {
-        0 => format!("success: {name}, no reply"),
-        length => format!("success: {name}, reply of {}", bytes(length)),
+        0 => format!("{head}: {name}, no reply"),
+        length => format!("{head}: {name}, reply of {}", bytes(length)),
     }
 }
 
@@ -269,7 +280,11 @@ pub fn reply_words(code: u16, payload: &[u8], answer: &Answer, out: &mut Vec<Str
     }
     if !answer.has("success") {
         let hex = cut(answer.field("reply").unwrap_or("?"));
-        out.push(format!("BYTES OF A REFUSED COMMAND: {hex}"));
+        let what = match answer.has("started") {
+            true => "BYTES WITHOUT A REPLY",
+            false => "BYTES OF A REFUSED COMMAND",
+        };
+        out.push(format!("{what}: {hex}"));
         return;
     }
     match code {

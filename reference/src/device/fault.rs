@@ -1,5 +1,10 @@
 //! Planted faults: errors that look reasonable, switched on one at a time to
-//! show that the generator's default seeds find them. No fault is on by itself.
+//! show that the generator's default seeds find them. No fault is on by itself. Those of
+//! W-207 stand in `fault/sanitize.rs`.
+
+pub mod sanitize;
+
+use sanitize::{WrongDisabled, WrongEnding, WrongRow, WrongStart, WrongTime};
 
 /// One planted fault of the model or of the host's side.
 #[derive(Clone, Copy, Debug, PartialEq, Eq)]
@@ -107,6 +112,12 @@ pub enum Fault {
     GetLogEndsAt48,
     LabelSizeIs0,
     LabelSizeIs2048,
+    /// A row of the table of durations, by its place from 0.
+    SanitizeRow(usize, WrongRow),
+    SanitizeTime(WrongTime),
+    SanitizeStart(WrongStart),
+    Ending(WrongEnding),
+    Disabled(WrongDisabled),
     BytePastReply,
     BufferWrittenOnRefusal,
     RoomAfterOpcode,
@@ -892,7 +903,7 @@ pub const FAULTS: &[FaultLine] = &[
     line(
         Fault::LabelsNotInEffectsLog,
         "labels-not-in-effects-log",
-        "the effects log has 48 bytes, as before W-206",
+        "4102h and 4103h are not in the effects log, as before W-206",
     ),
     line(
         Fault::LabelsLastInEffectsLog,
@@ -1377,7 +1388,8 @@ pub const HOST_FAULTS: &[FaultLine] = &[
     ),
 ];
 
-/// Whether a fault is one of the host's side: it shows in no other record.
+/// Whether a fault is one of the host's side: it shows in no stream without such a record.
 pub fn of_host(fault: Fault) -> bool {
-    HOST_FAULTS.iter().any(|line| line.fault == fault)
+    let mut all = HOST_FAULTS.iter().chain(sanitize::HOST_FAULTS);
+    all.any(|line| line.fault == fault)
 }

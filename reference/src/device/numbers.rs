@@ -40,8 +40,9 @@ pub mod opcode {
     pub const GET_POISON_LIST: u16 = 0x4300;
     pub const INJECT_POISON: u16 = 0x4301;
     pub const CLEAR_POISON: u16 = 0x4302;
+    pub const SANITIZE: u16 = 0x4400;
     /// All of them, ascending.
-    pub const ALL: [u16; 14] = [
+    pub const ALL: [u16; 15] = [
         GET_EVENT_RECORDS,
         CLEAR_EVENT_RECORDS,
         GET_POLICY,
@@ -56,7 +57,10 @@ pub mod opcode {
         GET_POISON_LIST,
         INJECT_POISON,
         CLEAR_POISON,
+        SANITIZE,
     ];
+    /// The commands on the poison list.
+    pub const POISON: [u16; 3] = [GET_POISON_LIST, INJECT_POISON, CLEAR_POISON];
     /// The twelve of document 01, ascending, which are those of the host's side "whatever
     /// has landed" (document 10).
     pub const HOST: [u16; 12] = [
@@ -75,12 +79,19 @@ pub mod opcode {
     ];
 }
 
-/// The refusals of document 01's table "Return numbers". Success is not among
-/// them: a call answers `Ok` or one of these.
+/// The return number of a command that succeeds.
+pub const SUCCESS: u16 = 0x0000;
+/// "Sanitize .. answers 0001h, started, with no reply; that is no refusal" (W-207).
+pub const STARTED: u16 = 0x0001;
+
+/// The refusals of document 01's table "Return numbers" and of the landed requests. Success
+/// and 0001h, started, are not among them: a call answers `Ok` or one of these.
 #[derive(Clone, Copy, Debug, PartialEq, Eq)]
 pub enum Refusal {
     InvalidInput,
     Unsupported,
+    Busy,
+    MediaDisabled,
     InvalidHandle,
     InvalidPhysicalAddress,
     InjectPoisonLimit,
@@ -95,6 +106,8 @@ impl Refusal {
         match self {
             Refusal::InvalidInput => 0x0002,
             Refusal::Unsupported => 0x0003,
+            Refusal::Busy => 0x0006,
+            Refusal::MediaDisabled => 0x0007,
             Refusal::InvalidHandle => 0x000e,
             Refusal::InvalidPhysicalAddress => 0x000f,
             Refusal::InjectPoisonLimit => 0x0010,
@@ -104,7 +117,7 @@ impl Refusal {
         }
     }
 
-    /// The refusal of a return number; None for Success.
+    /// The refusal of a return number; None for Success and for 0001h.
     pub fn of(number: u16) -> Option<Refusal> {
         ALL_REFUSALS
             .into_iter()
@@ -112,9 +125,11 @@ impl Refusal {
     }
 }
 
-const ALL_REFUSALS: [Refusal; 8] = [
+const ALL_REFUSALS: [Refusal; 10] = [
     Refusal::InvalidInput,
     Refusal::Unsupported,
+    Refusal::Busy,
+    Refusal::MediaDisabled,
     Refusal::InvalidHandle,
     Refusal::InvalidPhysicalAddress,
     Refusal::InjectPoisonLimit,
@@ -124,10 +139,13 @@ const ALL_REFUSALS: [Refusal; 8] = [
 ];
 
 /// The names of the return numbers as the case tool writes them.
-pub const RETURN_NAMES: [(u64, &str); 9] = [
+pub const RETURN_NAMES: [(u64, &str); 12] = [
     (0x0000, "success"),
+    (0x0001, "started"),
     (0x0002, "invalid-input"),
     (0x0003, "unsupported"),
+    (0x0006, "busy"),
+    (0x0007, "media-disabled"),
     (0x000e, "invalid-handle"),
     (0x000f, "invalid-physical-address"),
     (0x0010, "inject-poison-limit"),
@@ -144,7 +162,7 @@ pub fn number_of<T>(answer: &Result<T, Refusal>) -> u16 {
 /// The name of a return number.
 pub fn return_name(number: u64) -> &'static str {
     let found = RETURN_NAMES.iter().find(|(known, _)| *known == number);
-    found.map_or("number-not-in-document-01", |(_, name)| *name)
+    found.map_or("number-not-in-the-documents", |(_, name)| *name)
 }
 
 /// The little-endian number in up to 8 bytes.

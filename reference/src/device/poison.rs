@@ -28,12 +28,17 @@ pub struct Entry {
 }
 
 impl PoisonList {
-    /// A list of no entry with this one's flag and time (a planted fault).
+    /// A list of no entry with this one's flag and time (planted faults).
     pub fn without_entries(self) -> PoisonList {
         PoisonList {
             entries: BTreeMap::new(),
             ..self
         }
+    }
+
+    /// Clears the overflow flag (a planted fault).
+    pub fn clear_flag(&mut self) {
+        self.overflow = None;
     }
 
     /// The entries in ascending address order (house).

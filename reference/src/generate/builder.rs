@@ -152,9 +152,21 @@ impl Builder {
         self.out.extend(bytes);
     }
 
+    /// The caller's time from which on the work that runs is due, if one runs and a call can
+    /// have that time.
+    pub fn due(&self) -> Option<u64> {
+        let work = self.device().work()?;
+        u64::try_from(work.due_time()).ok()
+    }
+
     /// The caller's time for the next record: it mostly goes on, sometimes
-    /// stands still and sometimes goes back.
+    /// stands still and sometimes goes back. While media is disabled it soon comes to the end
+    /// of the work.
     pub fn tick(&mut self) -> u64 {
+        if let Some(due) = self.due().filter(|_| self.random.one_in(8)) {
+            self.time = due;
+            return due;
+        }
         self.time = match self.random.below(24) {
             0 => self.random.bits(),
             1 => self.time.saturating_sub(self.random.below(1000)),
@@ -219,6 +231,10 @@ impl Builder {
     /// A command with this room and fill, once.
     pub fn command_in(&mut self, room: u16, fill: u8, opcode: u16, payload: Vec<u8>) {
         let time = self.tick();
+        self.command_in_at(time, room, fill, opcode, payload);
+    }
+
+    pub fn command_in_at(&mut self, time: u64, room: u16, fill: u8, opcode: u16, payload: Vec<u8>) {
         self.push(Record::Command {
             time,
             opcode,
@@ -241,13 +257,16 @@ impl Builder {
     }
 
     pub fn event_at(&mut self, time: u64, log: u8) {
-        let record = self.random.bytes(RECORD);
-        self.push(Record::Event { time, log, record });
+        self.event_of_at(time, log, RECORD);
     }
 
     /// An event report with a record of any size.
     pub fn event_of(&mut self, log: u8, size: usize) {
         let time = self.tick();
+        self.event_of_at(time, log, size);
+    }
+
+    pub fn event_of_at(&mut self, time: u64, log: u8, size: usize) {
         let record = self.random.bytes(size);
         self.push(Record::Event { time, log, record });
     }
@@ -275,6 +294,10 @@ impl Builder {
 
     pub fn media(&mut self, address: u64, lines: u32, kind: u8) {
         let time = self.tick();
+        self.media_at(time, address, lines, kind);
+    }
+
+    pub fn media_at(&mut self, time: u64, address: u64, lines: u32, kind: u8) {
         self.push(Record::Media {
             time,
             address,
@@ -371,8 +394,14 @@ impl Builder {
         }
     }
 
-    /// Makes everything visible.
+    /// Makes everything visible. A work that runs is ended first, since line tests and label
+    /// reads show nothing while media is disabled; the logs are shown before that too.
     pub fn show(&mut self) {
+        if let Some(due) = self.due() {
+            self.show_events();
+            self.command_at(due, opcode::GET_TIMESTAMP, vec![]);
+            self.set_time(due);
+        }
         self.show_events();
         self.show_poison();
         self.show_labels();

@@ -44,6 +44,14 @@ pub fn plausible_payload(b: &mut Builder, code: u16) -> Vec<u8> {
     }
 }
 
+/// One of the opcodes, Sanitize less often than the others: its end empties the logs.
+pub fn some_opcode(b: &mut Builder) -> u16 {
+    match b.random.pick(&opcode::ALL) {
+        opcode::SANITIZE if b.random.one_in(2) => opcode::GET_EVENT_RECORDS,
+        code => code,
+    }
+}
+
 /// Every opcode, and some that are unknown, with every length of 0 to 80 and
 /// some great ones.
 pub fn wrong_lengths(b: &mut Builder) {
@@ -131,7 +139,7 @@ pub fn policy(b: &mut Builder) {
     b.show();
 }
 
-fn get_log_payload(offset: u32, length: u32) -> Vec<u8> {
+pub fn get_log_payload(offset: u32, length: u32) -> Vec<u8> {
     let mut payload = EFFECTS_IDENTIFIER.to_vec();
     payload.extend(offset.to_le_bytes());
     payload.extend(length.to_le_bytes());
@@ -142,22 +150,22 @@ fn get_log_payload(offset: u32, length: u32) -> Vec<u8> {
 pub fn get_log(b: &mut Builder) {
     b.any_device();
     b.command(opcode::GET_SUPPORTED_LOGS, vec![]);
-    let mut edges: Vec<u32> = (0..=60).collect();
+    let mut edges: Vec<u32> = (0..=64).collect();
     for centre in [1u32 << 11, 1 << 12, 1 << 16, 1 << 31] {
         edges.extend([centre - 1, centre, centre + 1]);
     }
-    edges.extend((0..=60).map(|below| u32::MAX - below));
-    for at in 0..=60u32 {
+    edges.extend((0..=64).map(|below| u32::MAX - below));
+    for at in 0..=64u32 {
         // The lengths around the one that ends at the log's end.
-        for length in [56u32.saturating_sub(at), 57u32.saturating_sub(at), 0, 1] {
+        for length in [60u32.saturating_sub(at), 61u32.saturating_sub(at), 0, 1] {
             b.command(opcode::GET_LOG, get_log_payload(at, length));
         }
         // An offset and a length whose sum wraps in 32 bits.
-        let wrapped = get_log_payload(u32::MAX - at, at + 56);
+        let wrapped = get_log_payload(u32::MAX - at, at + 60);
         b.command(opcode::GET_LOG, wrapped);
     }
     for at in 0..16 {
-        for length in [0, 56, 57, 2049] {
+        for length in [0, 60, 61, 2049] {
             let mut payload = get_log_payload(0, length);
             payload[at] ^= b.random.pick(&[1, 0x80, 0xff]);
             b.command(opcode::GET_LOG, payload);
@@ -237,7 +245,7 @@ pub fn one_step(b: &mut Builder) {
             b.command(opcode::SET_POLICY, payload);
         }
         10 => {
-            let code = b.random.pick(&opcode::ALL);
+            let code = some_opcode(b);
             let payload = plausible_payload(b, code);
             b.command(code, payload);
         }

@@ -316,9 +316,9 @@ pub fn device_replies(b: &mut Builder) {
         }
         let asked = match code {
             opcode::GET_LOG => {
-                let length = b.random.below(57) as u32;
+                let length = b.random.below(61) as u32;
                 payload[20..24].copy_from_slice(&length.to_le_bytes());
-                payload[16] = b.random.below(57 - u64::from(length)) as u8;
+                payload[16] = b.random.below(61 - u64::from(length)) as u8;
                 length
             }
             _ => 0,
@@ -430,7 +430,7 @@ fn list(b: &mut Builder, held: usize) -> Region {
 }
 
 /// The walk of a range in a room that is enough, and in one that is too small.
-fn some_walk(b: &mut Builder, line: u64, lines: u64) {
+pub fn some_walk(b: &mut Builder, line: u64, lines: u64) {
     let (address, most) = (line * 64, MOST_WALK as usize);
     let mut room = vec![0; most];
     let (_, need) = walk(b.device(), address, lines, &mut room, Config::default());

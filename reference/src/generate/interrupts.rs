@@ -79,7 +79,7 @@ pub fn vectors(b: &mut Builder) {
 }
 
 /// A line of the region that no entry covers, or any if there is none in some tries.
-fn free_line(b: &mut Builder, region: &Region) -> u64 {
+pub fn free_line(b: &mut Builder, region: &Region) -> u64 {
     let mut line = region.base + b.random.below(region.lines);
     for _ in 0..20 {
         if b.device().poison_list().covering(line.into()).is_none() {
@@ -91,7 +91,7 @@ fn free_line(b: &mut Builder, region: &Region) -> u64 {
 }
 
 /// A line that an entry covers; any of the region if there is no entry.
-fn covered_line(b: &mut Builder, region: &Region) -> u64 {
+pub fn covered_line(b: &mut Builder, region: &Region) -> u64 {
     let entries = b.entries();
     if entries.is_empty() {
         return region.base + b.random.below(region.lines);

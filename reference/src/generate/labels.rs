@@ -2,7 +2,7 @@
 //! read and write some of it.
 
 use super::builder::Builder;
-use super::commands::{one_step, plausible_payload, UNITS};
+use super::commands::{one_step, plausible_payload, some_opcode, UNITS};
 use super::host::host_step;
 use super::poison::{poison_step, region};
 use super::probe::codes;
@@ -278,7 +278,7 @@ pub fn labels_kept(b: &mut Builder) {
             0..=2 => one_step(b),
             3..=4 => poison_step(b, &region),
             5 => {
-                let code = b.random.pick(&opcode::ALL);
+                let code = some_opcode(b);
                 let payload = plausible_payload(b, code);
                 b.command(code, payload);
             }

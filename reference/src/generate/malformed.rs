@@ -335,7 +335,7 @@ fn over_limit(b: &mut Builder, records: &[Record], part: usize) {
 /// Heads of records that a request brings with a size over its limit, an n that 0103h does
 /// not have or an opcode that the record does not know. The sizes of AR and AB are those
 /// just over 8,192 and those that are not over it in 16 bits.
-const REQUEST_SIZES: [&[u8]; 32] = [
+const REQUEST_SIZES: [&[u8]; 35] = [
     b"AR\x01\x20\x00\x00",
     b"AR\x00\x20\x01\x00",
     b"AR\x00\x10\x00\x80",
@@ -350,6 +350,9 @@ const REQUEST_SIZES: [&[u8]; 32] = [
     b"RQ\x03\x41\x00\x10\xaa",
     b"RP\x02\x41\x00\x00\x00\x00\x00\x00",
     b"RW\x03\x41\x00\x00\x00\x00\x00\x10\xaa\x00\x00",
+    b"RQ\x00\x44\x00\x10\xaa",
+    b"RP\x00\x44\x00\x00\x00\x00\x00\x00",
+    b"RW\x00\x44\x00\x00\x00\x00\x00\x10\xaa\x00\x00",
     b"RQ\x00\x40\x01\x10\xaa",
     b"RQ\x00\x40\xff\xff\xaa",
     b"RQ\x01\x01\x00\x10\xaa\x00\x00\xe9\x03",

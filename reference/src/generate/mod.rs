@@ -11,6 +11,7 @@ pub mod malformed;
 pub mod poison;
 pub mod probe;
 pub mod reserved;
+pub mod sanitize;
 
 use crate::format::Format;
 use builder::Builder;
@@ -197,6 +198,42 @@ pub const PROFILES: &[Profile] = &[
         labels::labels_kept,
         "labels under all other calls, refused ones included",
     ),
+    several(
+        "sanitize-rows",
+        sanitize::ROW_STREAMS,
+        sanitize::rows,
+        "Sanitize on devices at the edges of the ten rows, about the due time (20 streams)",
+    ),
+    one(
+        "sanitize-refusals",
+        sanitize::refusals,
+        "refused calls of every kind, just before a due time and at it",
+    ),
+    one(
+        "sanitize-disabled",
+        sanitize::disabled,
+        "every call while media is disabled, right and wrong otherwise",
+    ),
+    one(
+        "sanitize-at-due",
+        sanitize::at_due,
+        "each call at a due time with logs of every state: injections, reports, Sanitize",
+    ),
+    one(
+        "sanitize-clock",
+        sanitize::clock,
+        "clocks that go back or are set during the work, beginnings near 2^64",
+    ),
+    one(
+        "sanitize-full-list",
+        sanitize::full_list,
+        "Sanitize with a list at 256 entries throughout, with and without overflow",
+    ),
+    one(
+        "sanitize-mixed",
+        sanitize::sanitize_mixed,
+        "Sanitize while one runs, when one is due and when it is over, among all calls",
+    ),
     one(
         "unknown-opcodes",
         commands::unknown_opcodes,
@@ -329,7 +366,7 @@ pub const PROBE_PROFILES: &[Profile] = &[
         "malformed",
         malformed::PROBE_STREAMS,
         malformed::probe,
-        "bad streams of every kind, marks of later requests, a cut at every place (693 streams)",
+        "bad streams of every kind, marks of later requests, a cut at every place (702 streams)",
     ),
     one(
         "label-areas",
@@ -340,6 +377,16 @@ pub const PROBE_PROFILES: &[Profile] = &[
         "label-store",
         labels::label_store,
         "the label store under makes, changing sizes and rooms of every kind",
+    ),
+    one(
+        "sanitize-lent",
+        sanitize::lent,
+        "rooms, fills and label areas of every size just before a due time and at it",
+    ),
+    one(
+        "sanitize-makes",
+        sanitize::makes,
+        "makes, walks, event sizes, status and total during the work of a Sanitize",
     ),
     one(
         "everything",
@@ -377,7 +424,7 @@ pub const PROBE_PROFILES: &[Profile] = &[
 /// Seeds `compare` runs where none are given: two rounds of [`SEED_ROUND`].
 pub const DEFAULT_SEEDS: std::ops::Range<u64> = 0..2 * SEED_ROUND;
 /// Each large profile is chosen by one seed of a round.
-const SEED_ROUND: u64 = 181;
+const SEED_ROUND: u64 = 222;
 
 /// Every profile of a format.
 pub fn profiles(format: Format) -> Vec<&'static Profile> {

@@ -1,7 +1,7 @@
 //! Profiles of probe alone: lent buffers, sizes, makes, status and total.
 
 use super::builder::Builder;
-use super::commands::{one_step, plausible_payload, UNITS};
+use super::commands::{one_step, plausible_payload, some_opcode, UNITS};
 use super::host::host_step;
 use super::poison::{self, fill, poison_step, region};
 use crate::device::numbers::{opcode, LOG_ROOM, MAILBOX};
@@ -84,7 +84,7 @@ pub fn rooms(b: &mut Builder) {
 pub fn fills(b: &mut Builder) {
     busy_device(b);
     while b.more() {
-        let code = b.random.pick(&opcode::ALL);
+        let code = some_opcode(b);
         let payload = match code {
             opcode::GET_POISON_LIST => whole_list(b),
             _ => plausible_payload(b, code),
@@ -311,7 +311,7 @@ pub fn everything(b: &mut Builder) {
     while b.more() {
         let lines = 1200.min(b.device_lines());
         let region = region(b, lines);
-        match b.random.below(40) {
+        match b.random.below(41) {
             0 => b.any_device(),
             1 => {
                 let (volatile, persistent) = b.random.pick(UNITS);
@@ -330,6 +330,7 @@ pub fn everything(b: &mut Builder) {
             13 => last_lines(b),
             14..=15 => host_step(b),
             16..=26 => one_step(b),
+            27 => b.command(opcode::SANITIZE, vec![]),
             _ => poison_step(b, &region),
         }
     }
@@ -340,7 +341,7 @@ pub fn everything(b: &mut Builder) {
 fn any_command(b: &mut Builder) {
     let code = match b.random.one_in(8) {
         true => b.random.bits() as u16,
-        false => b.random.pick(&opcode::ALL),
+        false => some_opcode(b),
     };
     let any = b.random.below(4097) as u16;
     let room = match b.random.one_in(2) {

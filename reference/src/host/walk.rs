@@ -4,6 +4,7 @@
 
 use super::put;
 use super::request::Request;
+use crate::device::fault::sanitize::WrongDisabled;
 use crate::device::numbers::{number, Refusal, LABEL_AREA, MAILBOX};
 use crate::device::{Config, Device, Fault};
 
@@ -19,12 +20,17 @@ pub fn walk(
     room: &mut [u8],
     config: Config,
 ) -> (u16, usize) {
-    // Get Poison List changes nothing; the mailbox command may, so it gets a copy.
+    // Get Poison List changes nothing; the mailbox command may, so it gets a copy. It works
+    // while media is disabled, and at time 0 no work is due (W-207).
     let mut device = device.clone();
     let mut records = Vec::new();
     let mut walked = part(&mut device, address, lines, &mut records, config);
     if config.has(Fault::WalkRefusedIsEmpty) {
         walked = Ok(());
+    }
+    let refused = Fault::Disabled(WrongDisabled::WalkRefused);
+    if device.media_disabled() && config.has(refused) {
+        walked = Err(Refusal::MediaDisabled);
     }
     if config.has(Fault::WalkJoinsNeighbours) {
         records = joined(&records);

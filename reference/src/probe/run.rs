@@ -1,8 +1,10 @@
 //! Document 10: records in, a line for each out, every answer whole.
 
 use super::record::{Reader, Record, LABEL_STORE};
+use crate::device::fault::sanitize::WrongDisabled;
 use crate::device::logs::Reported;
 use crate::device::numbers::{number_of, Refusal, LABEL_AREA};
+use crate::device::sanitize::Untimed;
 use crate::device::{Config, Device, Fault, LineAnswer};
 use crate::host::reply::{read, write_again, Unread, Value};
 use crate::host::walk::walk;
@@ -98,8 +100,12 @@ impl Probe {
             Record::Status => {
                 let (bits, waiting, highest) = self.device.event_status();
                 self.line.numbers([bits, waiting, highest].map(u128::from));
+                self.device.after_untimed(Untimed::Status);
             }
-            Record::Total => self.line.number(self.device.damage_total()),
+            Record::Total => {
+                self.line.number(self.device.damage_total());
+                self.device.after_untimed(Untimed::Total);
+            }
             Record::Request {
                 room,
                 fill,
@@ -144,6 +150,7 @@ impl Probe {
                     true => (Refusal::ReplyBufferTooSmall.number(), 0),
                     false => walk(&self.device, *address, *lines, &mut buffer, self.config),
                 };
+                self.device.after_untimed(Untimed::Walk);
                 self.answer(answer, &buffer, *fill);
             }
         }
@@ -240,13 +247,19 @@ impl Probe {
 
     fn line_test(&mut self, address: u64) {
         let answer = self.device.line_test(address);
-        let refused = match self.config.has(Fault::RefusedLineIsClean) {
-            true => LineAnswer::Clean,
-            false => LineAnswer::Unknown,
+        let refused = match self.config.fault {
+            Some(Fault::RefusedLineIsClean) => LineAnswer::Clean,
+            Some(Fault::Disabled(WrongDisabled::RefusedLineIsDisabled))
+                if self.device.media_disabled() =>
+            {
+                LineAnswer::Disabled
+            }
+            _ => LineAnswer::Unknown,
         };
         let (said, kind) = answer.as_ref().unwrap_or(&refused).numbers();
         let number = number_of(&answer).into();
         self.line.numbers([number, said.into(), kind.into()]);
+        self.device.after_untimed(Untimed::Line);
     }
 }
 

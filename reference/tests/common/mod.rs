@@ -10,8 +10,8 @@ use reference::generate::Profile;
 use reference::probe::record::Record;
 use reference::probe::Probe;
 
-/// Runs a seed's stream of a profile. `look` gets each record, the device before it and the
-/// program after it, with the record's line. A bench stream is run by the probe's model
+/// Runs a seed's stream of a profile. `look` gets each record, the device that its call finds
+/// and the program after it, with the record's line. A bench stream is run by the probe's model
 /// too, since its lines tell the vector.
 pub fn each_step(
     format: Format,
@@ -19,7 +19,20 @@ pub fn each_step(
     seed: u64,
     mut look: impl FnMut(&Record, &Device, &Probe),
 ) {
-    let stream = profile.stream_of(format, seed, 0, None);
+    each_record(format, profile, seed, 0, |record, before, after| {
+        look(record, &found(record, before), after);
+    });
+}
+
+/// The same for stream number `part` of a seed, with the device that the last record left.
+pub fn each_record(
+    format: Format,
+    profile: &Profile,
+    seed: u64,
+    part: usize,
+    mut look: impl FnMut(&Record, &Device, &Probe),
+) {
+    let stream = profile.stream_of(format, seed, part, None);
     let mut probe = Probe::new(Config::default());
     for (_, record) in format.records(&stream) {
         let record = record.unwrap();
@@ -42,6 +55,26 @@ pub fn rightly_lent<'a>(record: &'a Record, after: &Probe) -> Option<(u16, &'a [
         } if usize::from(*room) >= MAILBOX && after.labels().lent().len() == LABEL_AREA => {
             Some((*opcode, payload))
         }
+        _ => None,
+    }
+}
+
+/// The device that a record's call finds: the one before it, after the ending of a work that
+/// is due at the call's time (W-207). A command that is refused for its buffer leaves just that.
+pub fn found(record: &Record, before: &Device) -> Device {
+    let mut device = before.clone();
+    if let Some(time) = time_of(record) {
+        let refused = device.command(0, &[], time, &mut [], &mut []);
+        assert_eq!(refused.number, 0x0100);
+    }
+    device
+}
+
+/// The caller's time of a record, if it carries one.
+pub fn time_of(record: &Record) -> Option<u64> {
+    match record {
+        Record::Command { time, .. } => Some(*time),
+        Record::Event { time, .. } | Record::Media { time, .. } => Some(*time),
         _ => None,
     }
 }

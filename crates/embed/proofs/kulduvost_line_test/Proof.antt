@@ -59,6 +59,8 @@ use Rattle.embed.proofs.Line as LineT
 use Rattle.embed.proofs.Line.Laws as LineL
 use Rattle.poison.proofs.list.PoisonList as PoisonListT
 use Rattle.poison.proofs.list.PoisonList.Laws as PoisonListL
+use Rattle.commands.proofs.media.MediaState as MediaStateT
+use Rattle.commands.proofs.media.MediaState.Laws as MediaStateL
 use Rattle.embed.proofs.Parts.{line-in-asks, line-in-gives}
 use Rattle.embed.proofs.Steps.{so, holds, free-all, lend}
 use Rattle.embed.proofs.line_in as g-line-in
@@ -122,10 +124,10 @@ module _ {M : Type 1} (𝓤 : URA M) (H : Heap 𝓤) (A : Atoms 𝓤) (W : Given
 
   -- what each call binds, and that the caller has what it asks
   abbrev to-line-in : (starts-δ : GName) → (lengths-δ : GName) → (kinds-δ : GName) → C-line-in 𝓤 H A at-mem run .Ghost
-  to-line-in starts-δ lengths-δ kinds-δ = (((κ0, tt), (q0, tt), tt, (starts-ref starts-δ, (lengths-ref lengths-δ, (kinds-ref kinds-δ, ((h .poison) .count, ((h .poison) .overflow, (h .volatile, (h .persistent, (address, tt)))))))), (vptr b (o + 5320 + 0) ∷ [], (vptr b (o + 5320 + 1024) ∷ [], (vptr b (o + 5320 + 2048) ∷ [], (vint w64 ((h .poison) .count) ∷ [], (vbool ((h .poison) .overflow) ∷ [], (vint w16 (h .volatile) ∷ [], (vint w16 (h .persistent) ∷ [], (vint w64 address ∷ [], tt))))))))), tt)
+  to-line-in starts-δ lengths-δ kinds-δ = (((κ0, tt), (q0, tt), tt, (starts-ref starts-δ, (lengths-ref lengths-δ, (kinds-ref kinds-δ, ((h .poison) .count, ((h .poison) .overflow, ((h .media) .disabled, (h .volatile, (h .persistent, (address, tt))))))))), (vptr b (o + 5320 + 0) ∷ [], (vptr b (o + 5320 + 1024) ∷ [], (vptr b (o + 5320 + 2048) ∷ [], (vint w64 ((h .poison) .count) ∷ [], (vbool ((h .poison) .overflow) ∷ [], (vbool ((h .media) .disabled) ∷ [], (vint w16 (h .volatile) ∷ [], (vint w16 (h .persistent) ∷ [], (vint w64 address ∷ [], tt)))))))))), tt)
 
   goes-line-in : (starts-δ : GName) → (lengths-δ : GName) → (kinds-δ : GName) → (((h .volatile) + (h .persistent) ≤ most-units) × ValidRuns capacity ((h .poison) .count) (h .poison .starts) (h .poison .lengths) × (length (h .poison .kinds) ≡ 256)) → Is u64 ((h .poison) .count) (vint w64 ((h .poison) .count) ∷ []) → Is u16 (h .volatile) (vint w16 (h .volatile) ∷ []) → Is u16 (h .persistent) (vint w16 (h .persistent) ∷ []) → ent 𝓤 (⋆ 𝓤 H A (‵ (ShrRef (named 0) κ0 (Array u32 256) .own (starts-ref starts-δ) (vptr b (o + 5320 + 0) ∷ [])) ∷ ‵ (ShrRef (named 0) κ0 (Array u32 256) .own (lengths-ref lengths-δ) (vptr b (o + 5320 + 1024) ∷ [])) ∷ ‵ (ShrRef (named 0) κ0 (Array u8 256) .own (kinds-ref kinds-δ) (vptr b (o + 5320 + 2048) ∷ [])) ∷ ‵ (flft κ0 q0) ∷ ‵ ftrue ∷ [])) (C-line-in 𝓤 H A at-mem run .pre (to-line-in starts-δ lengths-δ kinds-δ))
-  goes-line-in starts-δ lengths-δ kinds-δ ok is-3 is-2 is-1 = qed W (‵ (ShrRef (named 0) κ0 (Array u32 256) .own (starts-ref starts-δ) (vptr b (o + 5320 + 0) ∷ [])) ∷ ‵ (ShrRef (named 0) κ0 (Array u32 256) .own (lengths-ref lengths-δ) (vptr b (o + 5320 + 1024) ∷ [])) ∷ ‵ (ShrRef (named 0) κ0 (Array u8 256) .own (kinds-ref kinds-δ) (vptr b (o + 5320 + 2048) ∷ [])) ∷ ‵ (flft κ0 q0) ∷ ‵ ftrue ∷ []) ∵ says ! ok $ nothing ! $ owned ! u64 (Is u64) (uint-makes 𝓤 H A W w64) address _ (refl, address-fits) $ fjoin ! $ owned ! u16 (Is u16) (uint-makes 𝓤 H A W w16) (h .persistent) _ is-1 $ fjoin ! $ owned ! u16 (Is u16) (uint-makes 𝓤 H A W w16) (h .volatile) _ is-2 $ fjoin ! $ owned ! bool (Is bool) (bool-makes 𝓤 H A W) ((h .poison) .overflow) _ refl $ fjoin ! $ owned ! u64 (Is u64) (uint-makes 𝓤 H A W w64) ((h .poison) .count) _ is-3 $ fjoin ! $ move ! (3 ∷ 0 ∷ []) $ fjoin ! $ move ! (2 ∷ 0 ∷ []) $ fjoin ! $ move ! (1 ∷ 0 ∷ []) $ fjoin ! $ move ! (1 ∷ 2 ∷ 0 ∷ []) $ group ! 2 $ join ! $ done !
+  goes-line-in starts-δ lengths-δ kinds-δ ok is-3 is-2 is-1 = qed W (‵ (ShrRef (named 0) κ0 (Array u32 256) .own (starts-ref starts-δ) (vptr b (o + 5320 + 0) ∷ [])) ∷ ‵ (ShrRef (named 0) κ0 (Array u32 256) .own (lengths-ref lengths-δ) (vptr b (o + 5320 + 1024) ∷ [])) ∷ ‵ (ShrRef (named 0) κ0 (Array u8 256) .own (kinds-ref kinds-δ) (vptr b (o + 5320 + 2048) ∷ [])) ∷ ‵ (flft κ0 q0) ∷ ‵ ftrue ∷ []) ∵ says ! ok $ nothing ! $ owned ! u64 (Is u64) (uint-makes 𝓤 H A W w64) address _ (refl, address-fits) $ fjoin ! $ owned ! u16 (Is u16) (uint-makes 𝓤 H A W w16) (h .persistent) _ is-1 $ fjoin ! $ owned ! u16 (Is u16) (uint-makes 𝓤 H A W w16) (h .volatile) _ is-2 $ fjoin ! $ owned ! bool (Is bool) (bool-makes 𝓤 H A W) ((h .media) .disabled) _ refl $ fjoin ! $ owned ! bool (Is bool) (bool-makes 𝓤 H A W) ((h .poison) .overflow) _ refl $ fjoin ! $ owned ! u64 (Is u64) (uint-makes 𝓤 H A W w64) ((h .poison) .count) _ is-3 $ fjoin ! $ move ! (3 ∷ 0 ∷ []) $ fjoin ! $ move ! (2 ∷ 0 ∷ []) $ fjoin ! $ move ! (1 ∷ 0 ∷ []) $ fjoin ! $ move ! (1 ∷ 2 ∷ 0 ∷ []) $ group ! 2 $ join ! $ done !
 
   -- what the contract ensures of the answer r
   abbrev Clause : (r : Line) → SProp 𝓤
@@ -140,42 +142,44 @@ module _ {M : Type 1} (𝓤 : URA M) (H : Heap 𝓤) (A : Atoms 𝓤) (W : Given
     walk valid =
         qed W ((‵ (flft κ0 q0) ⊛ ‵ ftrue) ∷ ‵ (owns (ShrRef (named 0) κ0 DeviceT.the-row ∷ u64 ∷ []) x at) ∷ []) ∵ split ! $ move ! (1 ∷ []) $ drop ! $ move ! (1 ∷ []) $ fsplit ! $ fsplit3 ! $ drop ! $ move ! (2 ∷ []) $ fsplit ! $ drop ! $ move ! (0 ∷ []) $ drop ! $
         enter ! C Λ code.function (vptr b o ∷ vint w64 address ∷ []) _ $
-        alloc1 ! (λ l₀. alloc1 ! (λ l₁. alloc1 ! (λ l₂. alloc1 ! (λ l₃. alloc1 ! (λ l₄. alloc1 ! (λ l₅. alloc1 ! (λ l₆. alloc1 ! (λ l₇. alloc1 ! (λ l₈. alloc1 ! (λ l₉. alloc0 ! $ params1 ! $ pass1 ! (init ! 16 refl (tt, tt)) $ pass1 ! (init ! 14 refl (tt, record { fits = address-fits })) $ pass0 ! $
+        alloc1 ! (λ l₀. alloc1 ! (λ l₁. alloc1 ! (λ l₂. alloc1 ! (λ l₃. alloc1 ! (λ l₄. alloc1 ! (λ l₅. alloc1 ! (λ l₆. alloc1 ! (λ l₇. alloc1 ! (λ l₈. alloc1 ! (λ l₉. alloc1 ! (λ l₁₀. alloc0 ! $ params1 ! $ pass1 ! (init ! 18 refl (tt, tt)) $ pass1 ! (init ! 16 refl (tt, record { fits = address-fits })) $ pass0 ! $
         -- _3 = &(*device).5.0
-        move ! (21 ∷ []) $ shr-bor-dup ! $ move ! (1 ∷ 23 ∷ []) $ use2 W (later (some (λ (δ : GName). ‵ (ShrRef (named 0) κ0 (Array u32 256) .own (starts-ref δ) (vptr b (o + 5320 + 0) ∷ [])) ⊛ ‵ (flft κ0 q0)))) (lend 𝓤 H A W DeviceT.the-row (Array u32 256) (λ i. i + 5320 + 0) (λ d. d .poison .starts) (part-then 𝓤 H A W DeviceT.the-row PoisonListT.the-row (Array u32 256) (λ i. i + 5320) (λ i. i + 0) (λ d. d .poison) (λ d. d .starts) (to-poison 𝓤 H A W) (to-starts 𝓤 H A W)) κ0 q0 h b o) $ await ! tt $ pick ! (λ starts-δ. split ! $
-        assigns ! (addr ! (from ! (hop ! (look ! 19 refl) (fld ! refl (fld ! refl (stop !)))))) (from ! (stop !)) (init ! 15 refl (tt, tt)) $
+        move ! (23 ∷ []) $ shr-bor-dup ! $ move ! (1 ∷ 25 ∷ []) $ use2 W (later (some (λ (δ : GName). ‵ (ShrRef (named 0) κ0 (Array u32 256) .own (starts-ref δ) (vptr b (o + 5320 + 0) ∷ [])) ⊛ ‵ (flft κ0 q0)))) (lend 𝓤 H A W DeviceT.the-row (Array u32 256) (λ i. i + 5320 + 0) (λ d. d .poison .starts) (part-then 𝓤 H A W DeviceT.the-row PoisonListT.the-row (Array u32 256) (λ i. i + 5320) (λ i. i + 0) (λ d. d .poison) (λ d. d .starts) (to-poison 𝓤 H A W) (to-starts 𝓤 H A W)) κ0 q0 h b o) $ await ! tt $ pick ! (λ starts-δ. split ! $
+        assigns ! (addr ! (from ! (hop ! (look ! 21 refl) (fld ! refl (fld ! refl (stop !)))))) (from ! (stop !)) (init ! 17 refl (tt, tt)) $
         -- _4 = &(*device).5.1
         move ! (2 ∷ []) $ shr-bor-dup ! $ move ! (1 ∷ 3 ∷ []) $ use2 W (later (some (λ (δ : GName). ‵ (ShrRef (named 0) κ0 (Array u32 256) .own (lengths-ref δ) (vptr b (o + 5320 + 1024) ∷ [])) ⊛ ‵ (flft κ0 q0)))) (lend 𝓤 H A W DeviceT.the-row (Array u32 256) (λ i. i + 5320 + 1024) (λ d. d .poison .lengths) (part-then 𝓤 H A W DeviceT.the-row PoisonListT.the-row (Array u32 256) (λ i. i + 5320) (λ i. i + 1024) (λ d. d .poison) (λ d. d .lengths) (to-poison 𝓤 H A W) (to-lengths 𝓤 H A W)) κ0 q0 h b o) $ await ! tt $ pick ! (λ lengths-δ. split ! $
-        assigns ! (addr ! (from ! (hop ! (look ! 20 refl) (fld ! refl (fld ! refl (stop !)))))) (from ! (stop !)) (init ! 14 refl (tt, tt)) $
+        assigns ! (addr ! (from ! (hop ! (look ! 22 refl) (fld ! refl (fld ! refl (stop !)))))) (from ! (stop !)) (init ! 16 refl (tt, tt)) $
         -- _5 = &(*device).5.2
         move ! (2 ∷ []) $ shr-bor-dup ! $ move ! (1 ∷ 3 ∷ []) $ use2 W (later (some (λ (δ : GName). ‵ (ShrRef (named 0) κ0 (Array u8 256) .own (kinds-ref δ) (vptr b (o + 5320 + 2048) ∷ [])) ⊛ ‵ (flft κ0 q0)))) (lend 𝓤 H A W DeviceT.the-row (Array u8 256) (λ i. i + 5320 + 2048) (λ d. d .poison .kinds) (part-then 𝓤 H A W DeviceT.the-row PoisonListT.the-row (Array u8 256) (λ i. i + 5320) (λ i. i + 2048) (λ d. d .poison) (λ d. d .kinds) (to-poison 𝓤 H A W) (to-kinds 𝓤 H A W)) κ0 q0 h b o) $ await ! tt $ pick ! (λ kinds-δ. split ! $
-        assigns ! (addr ! (from ! (hop ! (look ! 21 refl) (fld ! refl (fld ! refl (stop !)))))) (from ! (stop !)) (init ! 13 refl (tt, tt)) $
+        assigns ! (addr ! (from ! (hop ! (look ! 23 refl) (fld ! refl (fld ! refl (stop !)))))) (from ! (stop !)) (init ! 15 refl (tt, tt)) $
         -- _6 = (*device).5.3
         -- the device is looked into
         move ! (2 ∷ 1 ∷ []) $ looks ! tt DeviceT.the-row (Is DeviceT.the-row) (shows 𝓤 H A DeviceT.the-row) (LL.vals DeviceT.the-type DeviceL.the-laws) (LL.tells DeviceT.the-type DeviceL.the-laws) ((LL.copy DeviceT.the-type DeviceL.the-copy) 𝓤 H A W) h b o (λ q′ vs. spelt ! DeviceT.the-row (Is DeviceT.the-row) (shows 𝓤 H A DeviceT.the-row) (LL.vals DeviceT.the-type DeviceL.the-laws) (LL.tells DeviceT.the-type DeviceL.the-laws) q′ h vs b o $
         move ! (1 ∷ []) $ facts ! DeviceT.the-row (Is DeviceT.the-row) (shows 𝓤 H A DeviceT.the-row) h (mach h ∷ []) (λ was. use1 W (‵ (fat q′ DeviceL.mir b o (mach h))) (W .laws .raw-at q′ DeviceL.mir b o (mach h)) $
-        assigns ! (of-opd ! (load ! (from ! (hop ! (look ! 22 refl) (fld ! refl (fld ! refl (stop !))))) (look-in ! 0 (sub ! 3 refl (sub ! 5 refl (whole !)))))) (from ! (stop !)) (init ! 12 refl (tt, record { fits = LL.owed PoisonListT.the-type PoisonListL.the-laws (h .poison) _ (LL.owed DeviceT.the-type DeviceL.the-laws h _ was .1 .1 .1 .1 .1 .0) .1 .1 .1 .0 .1 })) $
+        assigns ! (of-opd ! (load ! (from ! (hop ! (look ! 24 refl) (fld ! refl (fld ! refl (stop !))))) (look-in ! 0 (sub ! 3 refl (sub ! 5 refl (whole !)))))) (from ! (stop !)) (init ! 14 refl (tt, record { fits = LL.owed PoisonListT.the-type PoisonListL.the-laws (h .poison) _ (LL.owed DeviceT.the-type DeviceL.the-laws h _ was .1 .1 .1 .1 .1 .0) .1 .1 .1 .0 .1 })) $
         -- _7 = (*device).5.4
-        assigns ! (of-opd ! (load ! (from ! (hop ! (look ! 22 refl) (fld ! refl (fld ! refl (stop !))))) (look-in ! 0 (sub ! 4 refl (sub ! 5 refl (whole !)))))) (from ! (stop !)) (init ! 10 refl (tt, tt)) $
-        -- _8 = (*device).0
-        assigns ! (of-opd ! (load ! (from ! (hop ! (look ! 22 refl) (fld ! refl (stop !)))) (look-in ! 0 (sub ! 0 refl (whole !))))) (from ! (stop !)) (init ! 8 refl (tt, record { fits = LL.owed DeviceT.the-type DeviceL.the-laws h _ was .0 .1 })) $
-        -- _9 = (*device).1
-        assigns ! (of-opd ! (load ! (from ! (hop ! (look ! 22 refl) (fld ! refl (stop !)))) (look-in ! 0 (sub ! 1 refl (whole !))))) (from ! (stop !)) (init ! 6 refl (tt, record { fits = LL.owed DeviceT.the-type DeviceL.the-laws h _ was .1 .0 .1 })) $
-        -- _0 = embed::line_in(_3, _4, _5, _6, _7, _8, _9, address)
+        assigns ! (of-opd ! (load ! (from ! (hop ! (look ! 24 refl) (fld ! refl (fld ! refl (stop !))))) (look-in ! 0 (sub ! 4 refl (sub ! 5 refl (whole !)))))) (from ! (stop !)) (init ! 12 refl (tt, tt)) $
+        -- _8 = (*device).6.0
+        assigns ! (of-opd ! (load ! (from ! (hop ! (look ! 24 refl) (fld ! refl (fld ! refl (stop !))))) (look-in ! 0 (sub ! 0 refl (sub ! 6 refl (whole !)))))) (from ! (stop !)) (init ! 10 refl (tt, tt)) $
+        -- _9 = (*device).0
+        assigns ! (of-opd ! (load ! (from ! (hop ! (look ! 24 refl) (fld ! refl (stop !)))) (look-in ! 0 (sub ! 0 refl (whole !))))) (from ! (stop !)) (init ! 8 refl (tt, record { fits = LL.owed DeviceT.the-type DeviceL.the-laws h _ was .0 .1 })) $
+        -- _10 = (*device).1
+        assigns ! (of-opd ! (load ! (from ! (hop ! (look ! 24 refl) (fld ! refl (stop !)))) (look-in ! 0 (sub ! 1 refl (whole !))))) (from ! (stop !)) (init ! 6 refl (tt, record { fits = LL.owed DeviceT.the-type DeviceL.the-laws h _ was .1 .0 .1 })) $
+        -- _0 = embed::line_in(_3, _4, _5, _6, _7, _8, _9, _10, address)
         -- and shut
         move ! (0 ∷ []) $ use1 W (‵ (cellAt q′ (DeviceT.the-row .mir) (mach h ∷ []) b o)) (W .laws .at-raw q′ DeviceL.mir b o (mach h)) $ owned ! DeviceT.the-row (Is DeviceT.the-row) ((LL.makes DeviceT.the-type DeviceL.the-plain) 𝓤 H A) h (mach h ∷ []) was $
         move ! (1 ∷ 0 ∷ 2 ∷ []) $ shuts ! tt DeviceT.the-row q′ h (mach h ∷ []) b o $
         nothing ! $ move ! (5 ∷ 4 ∷ 3 ∷ 1 ∷ 0 ∷ []) $ group ! 5 $ use1 W (raw (C-line-in 𝓤 H A at-mem run .pre (to-line-in starts-δ lengths-δ kinds-δ))) (goes-line-in starts-δ lengths-δ kinds-δ (line-in-asks h address valid was) (refl, LL.owed PoisonListT.the-type PoisonListL.the-laws (h .poison) _ (LL.owed DeviceT.the-type DeviceL.the-laws h _ was .1 .1 .1 .1 .1 .0) .1 .1 .1 .0 .1) (refl, LL.owed DeviceT.the-type DeviceL.the-laws h _ was .0 .1) (refl, LL.owed DeviceT.the-type DeviceL.the-laws h _ was .1 .0 .1)) $
-        calls-at ! fm (C-line-in 𝓤 H A at-mem run) k-line-in (to-line-in starts-δ lengths-δ kinds-δ) (and-then ! (load ! (from ! (stop !)) (look ! 14 refl)) (and-then ! (load ! (from ! (stop !)) (look ! 12 refl)) (and-then ! (load ! (from ! (stop !)) (look ! 10 refl)) (and-then ! (load ! (from ! (stop !)) (look ! 8 refl)) (and-then ! (load ! (from ! (stop !)) (look ! 6 refl)) (and-then ! (load ! (from ! (stop !)) (look ! 4 refl)) (and-then ! (load ! (from ! (stop !)) (look ! 2 refl)) (and-then ! (load ! (from ! (stop !)) (look ! 16 refl)) (no-more !))))))))) (λ v-line-in.
-        use1 W (later (some (λ (r-line-in : Line). ((‵ (flft κ0 q0) ⊛ ‵ ftrue) ⊛ ‵ (LineT.the-row .own r-line-in (v-line-in ∷ []))) ⊛ raw (ensured 𝓤 H A g-line-in.ended (g-line-in.clauses 𝓤 H A at-mem run) (κ0, tt) (starts-ref starts-δ, (lengths-ref lengths-δ, (kinds-ref kinds-δ, ((h .poison) .count, ((h .poison) .overflow, (h .volatile, (h .persistent, (address, tt)))))))) tt r-line-in)))) (id⊢ 𝓤 _) $ await ! tt $ pick ! (λ r-line-in. split ! $
-        move ! (1 ∷ []) $ use1 W (some (λ (ws-line-in : Unit {0} × (Unit {0} × (Unit {0} × (Unit {0} × (Unit {0} × (Unit {0} × (Unit {0} × (Unit {0} × Unit {0})))))))). ‵ (lasts g-line-in.ended (κ0, tt) (starts-ref starts-δ, (lengths-ref lengths-δ, (kinds-ref kinds-δ, ((h .poison) .count, ((h .poison) .overflow, (h .volatile, (h .persistent, (address, tt)))))))) ws-line-in) ⊛ raw (fact 𝓤 (LineTold (line-test (seen (h .volatile) (h .persistent) (list-in ((h .poison) .count) (h .poison .starts) (h .poison .lengths) (h .poison .kinds) ((h .poison) .overflow))) address) r-line-in)))) (id⊢ 𝓤 _) $ pick ! (λ ws-line-in. split ! $
-        move ! (1 ∷ []) $ heard ! (LineTold (line-test (seen (h .volatile) (h .persistent) (list-in ((h .poison) .count) (h .poison .starts) (h .poison .lengths) (h .poison .kinds) ((h .poison) .overflow))) address) r-line-in) (λ e-line-in.
+        calls-at ! fm (C-line-in 𝓤 H A at-mem run) k-line-in (to-line-in starts-δ lengths-δ kinds-δ) (and-then ! (load ! (from ! (stop !)) (look ! 16 refl)) (and-then ! (load ! (from ! (stop !)) (look ! 14 refl)) (and-then ! (load ! (from ! (stop !)) (look ! 12 refl)) (and-then ! (load ! (from ! (stop !)) (look ! 10 refl)) (and-then ! (load ! (from ! (stop !)) (look ! 8 refl)) (and-then ! (load ! (from ! (stop !)) (look ! 6 refl)) (and-then ! (load ! (from ! (stop !)) (look ! 4 refl)) (and-then ! (load ! (from ! (stop !)) (look ! 2 refl)) (and-then ! (load ! (from ! (stop !)) (look ! 18 refl)) (no-more !)))))))))) (λ v-line-in.
+        use1 W (later (some (λ (r-line-in : Line). ((‵ (flft κ0 q0) ⊛ ‵ ftrue) ⊛ ‵ (LineT.the-row .own r-line-in (v-line-in ∷ []))) ⊛ raw (ensured 𝓤 H A g-line-in.ended (g-line-in.clauses 𝓤 H A at-mem run) (κ0, tt) (starts-ref starts-δ, (lengths-ref lengths-δ, (kinds-ref kinds-δ, ((h .poison) .count, ((h .poison) .overflow, ((h .media) .disabled, (h .volatile, (h .persistent, (address, tt))))))))) tt r-line-in)))) (id⊢ 𝓤 _) $ await ! tt $ pick ! (λ r-line-in. split ! $
+        move ! (1 ∷ []) $ use1 W (some (λ (ws-line-in : Unit {0} × (Unit {0} × (Unit {0} × (Unit {0} × (Unit {0} × (Unit {0} × (Unit {0} × (Unit {0} × (Unit {0} × Unit {0}))))))))). ‵ (lasts g-line-in.ended (κ0, tt) (starts-ref starts-δ, (lengths-ref lengths-δ, (kinds-ref kinds-δ, ((h .poison) .count, ((h .poison) .overflow, ((h .media) .disabled, (h .volatile, (h .persistent, (address, tt))))))))) ws-line-in) ⊛ raw (fact 𝓤 (LineTold (line-test (seen (h .volatile) (h .persistent) ((h .media) .disabled) (list-in ((h .poison) .count) (h .poison .starts) (h .poison .lengths) (h .poison .kinds) ((h .poison) .overflow))) address) r-line-in)))) (id⊢ 𝓤 _) $ pick ! (λ ws-line-in. split ! $
+        move ! (1 ∷ []) $ heard ! (LineTold (line-test (seen (h .volatile) (h .persistent) ((h .media) .disabled) (list-in ((h .poison) .count) (h .poison .starts) (h .poison .lengths) (h .poison .kinds) ((h .poison) .overflow))) address) r-line-in) (λ e-line-in.
         move ! (0 ∷ []) $ drop ! $ move ! (0 ∷ []) $ split ! $ move ! (0 ∷ []) $ split ! $ move ! (1 ∷ []) $ drop ! $ move ! (1 ∷ []) $ facts ! LineT.the-row (Is LineT.the-row) (shows 𝓤 H A LineT.the-row) r-line-in (v-line-in ∷ []) (λ i-line-in.
-        land ! (from ! (stop !)) (init ! 20 refl (LL.lawful LineT.the-type LineL.the-laws 𝓤 H A W .typed r-line-in _ i-line-in .0)) $ rewrite ! 20 (λ (u : Val). ‵ (fat fullShare LineL.mir l₀ 0 u)) (ap only (LL.tells LineT.the-type LineL.the-laws r-line-in _ i-line-in)) refl $
+        land ! (from ! (stop !)) (init ! 22 refl (LL.lawful LineT.the-type LineL.the-laws 𝓤 H A W .typed r-line-in _ i-line-in .0)) $ rewrite ! 22 (λ (u : Val). ‵ (fat fullShare LineL.mir l₀ 0 u)) (ap only (LL.tells LineT.the-type LineL.the-laws r-line-in _ i-line-in)) refl $
         -- return
-        returns ! (look ! 20 refl) $ forget ! 2 refl $ forget ! 4 refl $ forget ! 6 refl $ forget ! 8 refl $ forget ! 10 refl $ forget ! 12 refl $ forget ! 14 refl $ forget ! 16 refl $ forget ! 18 refl $ forget ! 20 refl $
-        move ! (20 ∷ 21 ∷ 18 ∷ 19 ∷ 16 ∷ 17 ∷ 14 ∷ 15 ∷ 12 ∷ 13 ∷ 10 ∷ 11 ∷ 8 ∷ 9 ∷ 6 ∷ 7 ∷ 4 ∷ 5 ∷ 2 ∷ 3 ∷ []) $ free-all ! $
-        keep ! (2 ∷ 1 ∷ 0 ∷ []) $ by ! (exits r-line-in _ (so 𝓤 (line-in-gives h address valid was r-line-in e-line-in)) (LL.owes LineT.the-type LineL.the-laws r-line-in ((refl, LL.owed LineT.the-type LineL.the-laws r-line-in _ i-line-in .0 .1), ((refl, LL.owed LineT.the-type LineL.the-laws r-line-in _ i-line-in .1 .0 .1), ((refl, LL.owed LineT.the-type LineL.the-laws r-line-in _ i-line-in .1 .1 .0 .1), tt)))))))))))))))))))))))))
+        returns ! (look ! 22 refl) $ forget ! 2 refl $ forget ! 4 refl $ forget ! 6 refl $ forget ! 8 refl $ forget ! 10 refl $ forget ! 12 refl $ forget ! 14 refl $ forget ! 16 refl $ forget ! 18 refl $ forget ! 20 refl $ forget ! 22 refl $
+        move ! (22 ∷ 23 ∷ 20 ∷ 21 ∷ 18 ∷ 19 ∷ 16 ∷ 17 ∷ 14 ∷ 15 ∷ 12 ∷ 13 ∷ 10 ∷ 11 ∷ 8 ∷ 9 ∷ 6 ∷ 7 ∷ 4 ∷ 5 ∷ 2 ∷ 3 ∷ []) $ free-all ! $
+        keep ! (2 ∷ 1 ∷ 0 ∷ []) $ by ! (exits r-line-in _ (so 𝓤 (line-in-gives h address valid was r-line-in e-line-in)) (LL.owes LineT.the-type LineL.the-laws r-line-in ((refl, LL.owed LineT.the-type LineL.the-laws r-line-in _ i-line-in .0 .1), ((refl, LL.owed LineT.the-type LineL.the-laws r-line-in _ i-line-in .1 .0 .1), ((refl, LL.owed LineT.the-type LineL.the-laws r-line-in _ i-line-in .1 .1 .0 .1), tt))))))))))))))))))))))))))
 
 module _ {M : Type 1} (𝓤 : URA M) (H : Heap 𝓤) (A : Atoms 𝓤) (W : Given 𝓤 H A) (at-mem : Memory → SProp 𝓤) (run : Routine → Fun 𝓤) where
   walks : (C : Calls 𝓤 H) (Λ : Loops 𝓤 H) → FmC 𝓤 H (W .laws) C → Triple 𝓤 (C #g-line-in) (C-line-in 𝓤 H A at-mem run) → Walks 𝓤 H A f.ended stayed (WpFn 𝓤 H C Λ code.function) (f.clauses 𝓤 H A at-mem run)

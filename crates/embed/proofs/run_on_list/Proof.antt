@@ -58,6 +58,8 @@ use Rattle.embed.proofs.Done.Laws as DoneL
 use Rattle.poison.specs.declared.list.PoisonList.{PoisonList}
 use Rattle.poison.proofs.list.PoisonList as PoisonListT
 use Rattle.poison.proofs.list.PoisonList.Laws as PoisonListL
+use Rattle.commands.proofs.media.MediaState as MediaStateT
+use Rattle.commands.proofs.media.MediaState.Laws as MediaStateL
 use Rattle.mailbox.specs.declared.by_parts.ListLeft.{ListLeft}
 use Rattle.mailbox.proofs.by_parts.ListLeft as ListLeftT
 use Rattle.mailbox.proofs.by_parts.ListLeft.Laws as ListLeftL
@@ -121,15 +123,15 @@ module _ {M : Type 1} (𝓤 : URA M) (H : Heap 𝓤) (A : Atoms 𝓤) (W : Given
   Post = walkOf 𝓤 H A f.ended stayed (f.clauses 𝓤 H A at-mem run) .post (((κ0, (κ1, (κ2, tt))), (q0, (q1, (q2, tt))), tt, x, at), tt)
 
   -- a device with another part is one
-  put-poison : (d : Device) → Is DeviceT.the-row d (mach d ∷ []) → (x : PoisonList) → Is PoisonListT.the-row x (LL.val PoisonListT.the-type PoisonListL.the-laws x ∷ []) → Is DeviceT.the-row (record { volatile = d .volatile; persistent = d .persistent; clock = d .clock; policy = d .policy; logs = d .logs; poison = x }) (mach (record { volatile = d .volatile; persistent = d .persistent; clock = d .clock; policy = d .policy; logs = d .logs; poison = x }) ∷ [])
-  put-poison d was x is = let owed = LL.owed DeviceT.the-type DeviceL.the-laws d _ was in LL.owes DeviceT.the-type DeviceL.the-laws (record { volatile = d .volatile; persistent = d .persistent; clock = d .clock; policy = d .policy; logs = d .logs; poison = x }) (owed .0, (owed .1 .0, (owed .1 .1 .0, (owed .1 .1 .1 .0, (owed .1 .1 .1 .1 .0, (is, tt))))))
+  put-poison : (d : Device) → Is DeviceT.the-row d (mach d ∷ []) → (x : PoisonList) → Is PoisonListT.the-row x (LL.val PoisonListT.the-type PoisonListL.the-laws x ∷ []) → Is DeviceT.the-row (record { volatile = d .volatile; persistent = d .persistent; clock = d .clock; policy = d .policy; logs = d .logs; poison = x; media = d .media }) (mach (record { volatile = d .volatile; persistent = d .persistent; clock = d .clock; policy = d .policy; logs = d .logs; poison = x; media = d .media }) ∷ [])
+  put-poison d was x is = let owed = LL.owed DeviceT.the-type DeviceL.the-laws d _ was in LL.owes DeviceT.the-type DeviceL.the-laws (record { volatile = d .volatile; persistent = d .persistent; clock = d .clock; policy = d .policy; logs = d .logs; poison = x; media = d .media }) (owed .0, (owed .1 .0, (owed .1 .1 .0, (owed .1 .1 .1 .0, (owed .1 .1 .1 .1 .0, (is, (owed .1 .1 .1 .1 .1 .1 .0, tt)))))))
 
   -- what each call binds, and that the caller has what it asks
   abbrev to-list-command-in-place : (starts-α : ℕ) → (starts-δ : GName) → (lengths-α : ℕ) → (lengths-δ : GName) → (kinds-α : ℕ) → (kinds-δ : GName) → C-list-command-in-place 𝓤 H A at-mem run .Ghost
-  to-list-command-in-place starts-α starts-δ lengths-α lengths-δ kinds-α kinds-δ = ((((starts-α ∷ []), ((lengths-α ∷ []), ((kinds-α ∷ []), (κ1, (κ2, tt))))), (fullShare, (fullShare, (fullShare, (q1, (q2, tt))))), tt, (starts-ref starts-δ, (lengths-ref lengths-δ, (kinds-ref kinds-δ, ((h .poison) .count, ((h .poison) .overflow, ((h .poison) .«overflow_time», (h .clock, (h .volatile, (h .persistent, (opcode, (payload-ref, (time, (reply-ref, tt))))))))))))), (vptr b (o + 5320 + 0) ∷ [], (vptr b (o + 5320 + 1024) ∷ [], (vptr b (o + 5320 + 2048) ∷ [], (vint w64 ((h .poison) .count) ∷ [], (vbool ((h .poison) .overflow) ∷ [], (vint w64 ((h .poison) .«overflow_time») ∷ [], (LL.val ClockT.the-type ClockL.the-laws (h .clock) ∷ [], (vint w16 (h .volatile) ∷ [], (vint w16 (h .persistent) ∷ [], (vint w16 opcode ∷ [], (payload-val ∷ [], (vint w64 time ∷ [], (reply-val ∷ [], tt)))))))))))))), tt)
+  to-list-command-in-place starts-α starts-δ lengths-α lengths-δ kinds-α kinds-δ = ((((starts-α ∷ []), ((lengths-α ∷ []), ((kinds-α ∷ []), (κ1, (κ2, tt))))), (fullShare, (fullShare, (fullShare, (q1, (q2, tt))))), tt, (starts-ref starts-δ, (lengths-ref lengths-δ, (kinds-ref kinds-δ, ((h .poison) .count, ((h .poison) .overflow, ((h .poison) .«overflow_time», (h .clock, (h .volatile, (h .persistent, ((h .media) .disabled, (opcode, (payload-ref, (time, (reply-ref, tt)))))))))))))), (vptr b (o + 5320 + 0) ∷ [], (vptr b (o + 5320 + 1024) ∷ [], (vptr b (o + 5320 + 2048) ∷ [], (vint w64 ((h .poison) .count) ∷ [], (vbool ((h .poison) .overflow) ∷ [], (vint w64 ((h .poison) .«overflow_time») ∷ [], (LL.val ClockT.the-type ClockL.the-laws (h .clock) ∷ [], (vint w16 (h .volatile) ∷ [], (vint w16 (h .persistent) ∷ [], (vbool ((h .media) .disabled) ∷ [], (vint w16 opcode ∷ [], (payload-val ∷ [], (vint w64 time ∷ [], (reply-val ∷ [], tt))))))))))))))), tt)
 
   goes-list-command-in-place : (starts-α : ℕ) → (starts-δ : GName) → (lengths-α : ℕ) → (lengths-δ : GName) → (kinds-α : ℕ) → (kinds-δ : GName) → ((1 ≤ (h .volatile) + (h .persistent)) × ((h .volatile) + (h .persistent) ≤ most-units) × ValidSlots (unit-lines * ((h .volatile) + (h .persistent))) ((h .poison) .count) (h .poison .starts) (h .poison .lengths) (h .poison .kinds) × (of-list opcode ≡ true)) → Is u64 ((h .poison) .count) (vint w64 ((h .poison) .count) ∷ []) → Is u64 ((h .poison) .«overflow_time») (vint w64 ((h .poison) .«overflow_time») ∷ []) → Is ClockT.the-row (h .clock) (LL.val ClockT.the-type ClockL.the-laws (h .clock) ∷ []) → Is u16 (h .volatile) (vint w16 (h .volatile) ∷ []) → Is u16 (h .persistent) (vint w16 (h .persistent) ∷ []) → ent 𝓤 (⋆ 𝓤 H A (‵ (MutRef (named 0) (starts-α ∷ []) (Array u32 256) .own (starts-ref starts-δ) (vptr b (o + 5320 + 0) ∷ [])) ∷ ‵ (MutRef (named 1) (lengths-α ∷ []) (Array u32 256) .own (lengths-ref lengths-δ) (vptr b (o + 5320 + 1024) ∷ [])) ∷ ‵ (MutRef (named 2) (kinds-α ∷ []) (Array u8 256) .own (kinds-ref kinds-δ) (vptr b (o + 5320 + 2048) ∷ [])) ∷ ‵ (ShrSlice (named 3) κ1 u8 .own payload-ref (payload-val ∷ [])) ∷ ‵ (MutSlice (named 4) κ2 u8 .own reply-ref (reply-val ∷ [])) ∷ ‵ (flft (starts-α ∷ []) fullShare) ∷ ‵ (flft (lengths-α ∷ []) fullShare) ∷ ‵ (flft (kinds-α ∷ []) fullShare) ∷ ‵ (flft κ1 q1) ∷ ‵ (flft κ2 q2) ∷ ‵ ftrue ∷ [])) (C-list-command-in-place 𝓤 H A at-mem run .pre (to-list-command-in-place starts-α starts-δ lengths-α lengths-δ kinds-α kinds-δ))
-  goes-list-command-in-place starts-α starts-δ lengths-α lengths-δ kinds-α kinds-δ ok is-5 is-4 is-3 is-2 is-1 = qed W (‵ (MutRef (named 0) (starts-α ∷ []) (Array u32 256) .own (starts-ref starts-δ) (vptr b (o + 5320 + 0) ∷ [])) ∷ ‵ (MutRef (named 1) (lengths-α ∷ []) (Array u32 256) .own (lengths-ref lengths-δ) (vptr b (o + 5320 + 1024) ∷ [])) ∷ ‵ (MutRef (named 2) (kinds-α ∷ []) (Array u8 256) .own (kinds-ref kinds-δ) (vptr b (o + 5320 + 2048) ∷ [])) ∷ ‵ (ShrSlice (named 3) κ1 u8 .own payload-ref (payload-val ∷ [])) ∷ ‵ (MutSlice (named 4) κ2 u8 .own reply-ref (reply-val ∷ [])) ∷ ‵ (flft (starts-α ∷ []) fullShare) ∷ ‵ (flft (lengths-α ∷ []) fullShare) ∷ ‵ (flft (kinds-α ∷ []) fullShare) ∷ ‵ (flft κ1 q1) ∷ ‵ (flft κ2 q2) ∷ ‵ ftrue ∷ []) ∵ says ! ok $ nothing ! $ move ! (5 ∷ 0 ∷ []) $ fjoin ! $ owned ! u64 (Is u64) (uint-makes 𝓤 H A W w64) time _ (refl, time-fits) $ fjoin ! $ move ! (4 ∷ 0 ∷ []) $ fjoin ! $ owned ! u16 (Is u16) (uint-makes 𝓤 H A W w16) opcode _ (refl, opcode-fits) $ fjoin ! $ owned ! u16 (Is u16) (uint-makes 𝓤 H A W w16) (h .persistent) _ is-1 $ fjoin ! $ owned ! u16 (Is u16) (uint-makes 𝓤 H A W w16) (h .volatile) _ is-2 $ fjoin ! $ owned ! ClockT.the-row (Is ClockT.the-row) ((LL.makes ClockT.the-type ClockL.the-plain) 𝓤 H A) (h .clock) _ is-3 $ fjoin ! $ owned ! u64 (Is u64) (uint-makes 𝓤 H A W w64) ((h .poison) .«overflow_time») _ is-4 $ fjoin ! $ owned ! bool (Is bool) (bool-makes 𝓤 H A W) ((h .poison) .overflow) _ refl $ fjoin ! $ owned ! u64 (Is u64) (uint-makes 𝓤 H A W w64) ((h .poison) .count) _ is-5 $ fjoin ! $ move ! (3 ∷ 0 ∷ []) $ fjoin ! $ move ! (2 ∷ 0 ∷ []) $ fjoin ! $ move ! (1 ∷ 0 ∷ []) $ fjoin ! $ move ! (1 ∷ 2 ∷ 3 ∷ 4 ∷ 5 ∷ 6 ∷ 0 ∷ []) $ group ! 6 $ join ! $ done !
+  goes-list-command-in-place starts-α starts-δ lengths-α lengths-δ kinds-α kinds-δ ok is-5 is-4 is-3 is-2 is-1 = qed W (‵ (MutRef (named 0) (starts-α ∷ []) (Array u32 256) .own (starts-ref starts-δ) (vptr b (o + 5320 + 0) ∷ [])) ∷ ‵ (MutRef (named 1) (lengths-α ∷ []) (Array u32 256) .own (lengths-ref lengths-δ) (vptr b (o + 5320 + 1024) ∷ [])) ∷ ‵ (MutRef (named 2) (kinds-α ∷ []) (Array u8 256) .own (kinds-ref kinds-δ) (vptr b (o + 5320 + 2048) ∷ [])) ∷ ‵ (ShrSlice (named 3) κ1 u8 .own payload-ref (payload-val ∷ [])) ∷ ‵ (MutSlice (named 4) κ2 u8 .own reply-ref (reply-val ∷ [])) ∷ ‵ (flft (starts-α ∷ []) fullShare) ∷ ‵ (flft (lengths-α ∷ []) fullShare) ∷ ‵ (flft (kinds-α ∷ []) fullShare) ∷ ‵ (flft κ1 q1) ∷ ‵ (flft κ2 q2) ∷ ‵ ftrue ∷ []) ∵ says ! ok $ nothing ! $ move ! (5 ∷ 0 ∷ []) $ fjoin ! $ owned ! u64 (Is u64) (uint-makes 𝓤 H A W w64) time _ (refl, time-fits) $ fjoin ! $ move ! (4 ∷ 0 ∷ []) $ fjoin ! $ owned ! u16 (Is u16) (uint-makes 𝓤 H A W w16) opcode _ (refl, opcode-fits) $ fjoin ! $ owned ! bool (Is bool) (bool-makes 𝓤 H A W) ((h .media) .disabled) _ refl $ fjoin ! $ owned ! u16 (Is u16) (uint-makes 𝓤 H A W w16) (h .persistent) _ is-1 $ fjoin ! $ owned ! u16 (Is u16) (uint-makes 𝓤 H A W w16) (h .volatile) _ is-2 $ fjoin ! $ owned ! ClockT.the-row (Is ClockT.the-row) ((LL.makes ClockT.the-type ClockL.the-plain) 𝓤 H A) (h .clock) _ is-3 $ fjoin ! $ owned ! u64 (Is u64) (uint-makes 𝓤 H A W w64) ((h .poison) .«overflow_time») _ is-4 $ fjoin ! $ owned ! bool (Is bool) (bool-makes 𝓤 H A W) ((h .poison) .overflow) _ refl $ fjoin ! $ owned ! u64 (Is u64) (uint-makes 𝓤 H A W w64) ((h .poison) .count) _ is-5 $ fjoin ! $ move ! (3 ∷ 0 ∷ []) $ fjoin ! $ move ! (2 ∷ 0 ∷ []) $ fjoin ! $ move ! (1 ∷ 0 ∷ []) $ fjoin ! $ move ! (1 ∷ 2 ∷ 3 ∷ 4 ∷ 5 ∷ 6 ∷ 0 ∷ []) $ group ! 6 $ join ! $ done !
 
   -- what the contract ensures of the answer r, of the device d behind the pointer and of the last lists
   abbrev Clause : (r : Done) (d : Device) (reply-last : List ℕ) → SProp 𝓤
@@ -144,67 +146,69 @@ module _ {M : Type 1} (𝓤 : URA M) (H : Heap 𝓤) (A : Atoms 𝓤) (W : Given
     walk valid =
         qed W ((‵ (flft κ0 q0) ⊛ ‵ (flft κ1 q1) ⊛ ‵ (flft κ2 q2) ⊛ ‵ ftrue) ∷ ‵ (owns (MutRef (named 0) κ0 DeviceT.the-row ∷ u16 ∷ ShrSlice (named 1) κ1 u8 ∷ u64 ∷ MutSlice (named 2) κ2 u8 ∷ []) x at) ∷ []) ∵ split ! $ move ! (1 ∷ []) $ split ! $ move ! (1 ∷ []) $ split ! $ move ! (1 ∷ []) $ drop ! $ move ! (3 ∷ []) $ fsplit ! $ fsplit3 ! $ drop ! $ move ! (2 ∷ []) $ fsplit ! $ drop ! $ move ! (0 ∷ []) $ fsplit ! $ move ! (1 ∷ []) $ fsplit ! $ drop ! $ move ! (0 ∷ []) $ fsplit ! $ move ! (1 ∷ []) $ drop ! $
         enter ! C Λ code.function (vptr b o ∷ vint w16 opcode ∷ payload-val ∷ vint w64 time ∷ reply-val ∷ []) _ $
-        alloc1 ! (λ l₀. alloc1 ! (λ l₁. alloc1 ! (λ l₂. alloc1 ! (λ l₃. alloc1 ! (λ l₄. alloc1 ! (λ l₅. alloc1 ! (λ l₆. alloc1 ! (λ l₇. alloc1 ! (λ l₈. alloc1 ! (λ l₉. alloc1 ! (λ l₁₀. alloc1 ! (λ l₁₁. alloc1 ! (λ l₁₂. alloc1 ! (λ l₁₃. alloc1 ! (λ l₁₄. alloc1 ! (λ l₁₅. alloc1 ! (λ l₁₆. alloc1 ! (λ l₁₇. alloc0 ! $ params1 ! $ pass1 ! (init ! 32 refl (tt, tt)) $ pass1 ! (init ! 30 refl (tt, record { fits = opcode-fits })) $ pass1 ! (init ! 28 refl (tt, (tt, (record { fits = payload-room .0 }, tt)))) $ pass1 ! (init ! 26 refl (tt, record { fits = time-fits })) $ pass1 ! (init ! 24 refl (tt, (tt, (record { fits = reply-room .0 }, tt)))) $ pass0 ! $
+        alloc1 ! (λ l₀. alloc1 ! (λ l₁. alloc1 ! (λ l₂. alloc1 ! (λ l₃. alloc1 ! (λ l₄. alloc1 ! (λ l₅. alloc1 ! (λ l₆. alloc1 ! (λ l₇. alloc1 ! (λ l₈. alloc1 ! (λ l₉. alloc1 ! (λ l₁₀. alloc1 ! (λ l₁₁. alloc1 ! (λ l₁₂. alloc1 ! (λ l₁₃. alloc1 ! (λ l₁₄. alloc1 ! (λ l₁₅. alloc1 ! (λ l₁₆. alloc1 ! (λ l₁₇. alloc1 ! (λ l₁₈. alloc0 ! $ params1 ! $ pass1 ! (init ! 34 refl (tt, tt)) $ pass1 ! (init ! 32 refl (tt, record { fits = opcode-fits })) $ pass1 ! (init ! 30 refl (tt, (tt, (record { fits = payload-room .0 }, tt)))) $ pass1 ! (init ! 28 refl (tt, record { fits = time-fits })) $ pass1 ! (init ! 26 refl (tt, (tt, (record { fits = reply-room .0 }, tt)))) $ pass0 ! $
         -- _7 = &(*device).5.0
-        assigns ! (addr ! (from ! (hop ! (look ! 32 refl) (fld ! refl (fld ! refl (stop !)))))) (from ! (stop !)) (init ! 20 refl (tt, tt)) $
+        assigns ! (addr ! (from ! (hop ! (look ! 34 refl) (fld ! refl (fld ! refl (stop !)))))) (from ! (stop !)) (init ! 22 refl (tt, tt)) $
         -- _8 = &(*device).5.1
-        assigns ! (addr ! (from ! (hop ! (look ! 32 refl) (fld ! refl (fld ! refl (stop !)))))) (from ! (stop !)) (init ! 18 refl (tt, tt)) $
+        assigns ! (addr ! (from ! (hop ! (look ! 34 refl) (fld ! refl (fld ! refl (stop !)))))) (from ! (stop !)) (init ! 20 refl (tt, tt)) $
         -- _9 = &(*device).5.2
-        assigns ! (addr ! (from ! (hop ! (look ! 32 refl) (fld ! refl (fld ! refl (stop !)))))) (from ! (stop !)) (init ! 16 refl (tt, tt)) $
+        assigns ! (addr ! (from ! (hop ! (look ! 34 refl) (fld ! refl (fld ! refl (stop !)))))) (from ! (stop !)) (init ! 18 refl (tt, tt)) $
         -- _10 = (*device).5.3
         -- the borrow of the device is opened
-        move ! (38 ∷ 39 ∷ 42 ∷ []) $ opens ! tt DeviceT.the-row {h = h} b o (λ vs. spelt ! DeviceT.the-row (Is DeviceT.the-row) (shows 𝓤 H A DeviceT.the-row) (LL.vals DeviceT.the-type DeviceL.the-laws) (LL.tells DeviceT.the-type DeviceL.the-laws) fullShare h vs b o $
+        move ! (40 ∷ 41 ∷ 44 ∷ []) $ opens ! tt DeviceT.the-row {h = h} b o (λ vs. spelt ! DeviceT.the-row (Is DeviceT.the-row) (shows 𝓤 H A DeviceT.the-row) (LL.vals DeviceT.the-type DeviceL.the-laws) (LL.tells DeviceT.the-type DeviceL.the-laws) fullShare h vs b o $
         move ! (1 ∷ []) $ facts ! DeviceT.the-row (Is DeviceT.the-row) (shows 𝓤 H A DeviceT.the-row) h (mach h ∷ []) (λ was. use1 W (‵ (fat fullShare DeviceL.mir b o (mach h))) (W .laws .raw-at fullShare DeviceL.mir b o (mach h)) $
-        assigns ! (of-opd ! (load ! (from ! (hop ! (look ! 36 refl) (fld ! refl (fld ! refl (stop !))))) (look-in ! 0 (sub ! 3 refl (sub ! 5 refl (whole !)))))) (from ! (stop !)) (init ! 18 refl (tt, record { fits = LL.owed PoisonListT.the-type PoisonListL.the-laws (h .poison) _ (LL.owed DeviceT.the-type DeviceL.the-laws h _ was .1 .1 .1 .1 .1 .0) .1 .1 .1 .0 .1 })) $
+        assigns ! (of-opd ! (load ! (from ! (hop ! (look ! 38 refl) (fld ! refl (fld ! refl (stop !))))) (look-in ! 0 (sub ! 3 refl (sub ! 5 refl (whole !)))))) (from ! (stop !)) (init ! 20 refl (tt, record { fits = LL.owed PoisonListT.the-type PoisonListL.the-laws (h .poison) _ (LL.owed DeviceT.the-type DeviceL.the-laws h _ was .1 .1 .1 .1 .1 .0) .1 .1 .1 .0 .1 })) $
         -- _11 = (*device).5.4
-        assigns ! (of-opd ! (load ! (from ! (hop ! (look ! 36 refl) (fld ! refl (fld ! refl (stop !))))) (look-in ! 0 (sub ! 4 refl (sub ! 5 refl (whole !)))))) (from ! (stop !)) (init ! 16 refl (tt, tt)) $
+        assigns ! (of-opd ! (load ! (from ! (hop ! (look ! 38 refl) (fld ! refl (fld ! refl (stop !))))) (look-in ! 0 (sub ! 4 refl (sub ! 5 refl (whole !)))))) (from ! (stop !)) (init ! 18 refl (tt, tt)) $
         -- _12 = (*device).5.5
-        assigns ! (of-opd ! (load ! (from ! (hop ! (look ! 36 refl) (fld ! refl (fld ! refl (stop !))))) (look-in ! 0 (sub ! 5 refl (sub ! 5 refl (whole !)))))) (from ! (stop !)) (init ! 14 refl (tt, record { fits = LL.owed PoisonListT.the-type PoisonListL.the-laws (h .poison) _ (LL.owed DeviceT.the-type DeviceL.the-laws h _ was .1 .1 .1 .1 .1 .0) .1 .1 .1 .1 .1 .0 .1 })) $
+        assigns ! (of-opd ! (load ! (from ! (hop ! (look ! 38 refl) (fld ! refl (fld ! refl (stop !))))) (look-in ! 0 (sub ! 5 refl (sub ! 5 refl (whole !)))))) (from ! (stop !)) (init ! 16 refl (tt, record { fits = LL.owed PoisonListT.the-type PoisonListL.the-laws (h .poison) _ (LL.owed DeviceT.the-type DeviceL.the-laws h _ was .1 .1 .1 .1 .1 .0) .1 .1 .1 .1 .1 .0 .1 })) $
         -- _13 = (*device).2
-        assigns ! (of-opd ! (load ! (from ! (hop ! (look ! 36 refl) (fld ! refl (stop !)))) (look-in ! 0 (sub ! 2 refl (whole !))))) (from ! (stop !)) (init ! 12 refl (LL.lawful ClockT.the-type ClockL.the-laws 𝓤 H A W .typed (h .clock) _ (LL.owed DeviceT.the-type DeviceL.the-laws h _ was .1 .1 .0) .0)) $
+        assigns ! (of-opd ! (load ! (from ! (hop ! (look ! 38 refl) (fld ! refl (stop !)))) (look-in ! 0 (sub ! 2 refl (whole !))))) (from ! (stop !)) (init ! 14 refl (LL.lawful ClockT.the-type ClockL.the-laws 𝓤 H A W .typed (h .clock) _ (LL.owed DeviceT.the-type DeviceL.the-laws h _ was .1 .1 .0) .0)) $
         -- _14 = (*device).0
-        assigns ! (of-opd ! (load ! (from ! (hop ! (look ! 36 refl) (fld ! refl (stop !)))) (look-in ! 0 (sub ! 0 refl (whole !))))) (from ! (stop !)) (init ! 10 refl (tt, record { fits = LL.owed DeviceT.the-type DeviceL.the-laws h _ was .0 .1 })) $
+        assigns ! (of-opd ! (load ! (from ! (hop ! (look ! 38 refl) (fld ! refl (stop !)))) (look-in ! 0 (sub ! 0 refl (whole !))))) (from ! (stop !)) (init ! 12 refl (tt, record { fits = LL.owed DeviceT.the-type DeviceL.the-laws h _ was .0 .1 })) $
         -- _15 = (*device).1
-        assigns ! (of-opd ! (load ! (from ! (hop ! (look ! 36 refl) (fld ! refl (stop !)))) (look-in ! 0 (sub ! 1 refl (whole !))))) (from ! (stop !)) (init ! 8 refl (tt, record { fits = LL.owed DeviceT.the-type DeviceL.the-laws h _ was .1 .0 .1 })) $
-        -- _16 = &(*reply.0)
-        assigns ! (addr ! (from ! (fld ! refl (hop ! (look-in ! 28 (sub ! 0 refl (whole !))) (stop !))))) (from ! (stop !)) (init ! 6 refl (tt, tt)) $
-        -- _17 = {_16, reply.1}
-        assigns ! (agg ! (and-then ! (load ! (from ! (stop !)) (look ! 6 refl)) (and-then ! (load ! (from ! (fld ! refl (stop !))) (look-in ! 28 (sub ! 1 refl (whole !)))) (no-more !)))) (from ! (stop !)) (init ! 4 refl (tt, (tt, (record { fits = reply-room .0 }, tt)))) $
-        -- _6 = mailbox::by_parts::list_command_in_place(_7, _8, _9, _10, _11, _12, _13, _14, _15, opcode, payload, time, _17)
+        assigns ! (of-opd ! (load ! (from ! (hop ! (look ! 38 refl) (fld ! refl (stop !)))) (look-in ! 0 (sub ! 1 refl (whole !))))) (from ! (stop !)) (init ! 10 refl (tt, record { fits = LL.owed DeviceT.the-type DeviceL.the-laws h _ was .1 .0 .1 })) $
+        -- _16 = (*device).6.0
+        assigns ! (of-opd ! (load ! (from ! (hop ! (look ! 38 refl) (fld ! refl (fld ! refl (stop !))))) (look-in ! 0 (sub ! 0 refl (sub ! 6 refl (whole !)))))) (from ! (stop !)) (init ! 8 refl (tt, tt)) $
+        -- _17 = &(*reply.0)
+        assigns ! (addr ! (from ! (fld ! refl (hop ! (look-in ! 30 (sub ! 0 refl (whole !))) (stop !))))) (from ! (stop !)) (init ! 6 refl (tt, tt)) $
+        -- _18 = {_17, reply.1}
+        assigns ! (agg ! (and-then ! (load ! (from ! (stop !)) (look ! 6 refl)) (and-then ! (load ! (from ! (fld ! refl (stop !))) (look-in ! 30 (sub ! 1 refl (whole !)))) (no-more !)))) (from ! (stop !)) (init ! 4 refl (tt, (tt, (record { fits = reply-room .0 }, tt)))) $
+        -- _6 = mailbox::by_parts::list_command_in_place(_7, _8, _9, _10, _11, _12, _13, _14, _15, _16, opcode, payload, time, _18)
         -- the arrays of the list are lent
         move ! (0 ∷ []) $ use1 W (‵ (Starts 𝓤 H A W b o h (h .poison .starts)) ⊛ ‵ (Lengths 𝓤 H A W b o h (h .poison .lengths)) ⊛ ‵ (Kinds 𝓤 H A W b o h (h .poison .kinds)) ⊛ raw (all 𝓤 (Back 𝓤 H A W b o h))) (slots-out 𝓤 H A W b o h was) $ move ! (0 ∷ []) $ split ! $ move ! (1 ∷ []) $ split ! $ move ! (1 ∷ []) $ split ! $
         lft-new ! tt (λ starts-α. move ! (4 ∷ []) $ use1 W (later (some (λ (δ : GName). ‵ (MutRef (named 0) (starts-α ∷ []) (Array u32 256) .own (starts-ref δ) (vptr b (o + 5320 + 0) ∷ [])) ⊛ ‵ (flent (starts-α ∷ []) (Body (mem (Array u32 256)) b (o + 5320 + 0) δ))))) (lends-ref 𝓤 H A W (Array u32 256) (named 0) (starts-α ∷ []) (h .poison .starts) b (o + 5320 + 0)) $ await ! tt $ pick ! (λ starts-δ. split ! $
         lft-new ! tt (λ lengths-α. move ! (6 ∷ []) $ use1 W (later (some (λ (δ : GName). ‵ (MutRef (named 0) (lengths-α ∷ []) (Array u32 256) .own (lengths-ref δ) (vptr b (o + 5320 + 1024) ∷ [])) ⊛ ‵ (flent (lengths-α ∷ []) (Body (mem (Array u32 256)) b (o + 5320 + 1024) δ))))) (lends-ref 𝓤 H A W (Array u32 256) (named 0) (lengths-α ∷ []) (h .poison .lengths) b (o + 5320 + 1024)) $ await ! tt $ pick ! (λ lengths-δ. split ! $
         lft-new ! tt (λ kinds-α. move ! (7 ∷ []) $ use1 W (later (some (λ (δ : GName). ‵ (MutRef (named 0) (kinds-α ∷ []) (Array u8 256) .own (kinds-ref δ) (vptr b (o + 5320 + 2048) ∷ [])) ⊛ ‵ (flent (kinds-α ∷ []) (Body (mem (Array u8 256)) b (o + 5320 + 2048) δ))))) (lends-ref 𝓤 H A W (Array u8 256) (named 0) (kinds-α ∷ []) (h .poison .kinds) b (o + 5320 + 2048)) $ await ! tt $ pick ! (λ kinds-δ. split ! $
-        move ! (50 ∷ []) $ use1 W (‵ (ShrSlice (named 1) κ1 u8 .own payload-ref (payload-val ∷ [])) ⊛ ‵ (ShrSlice (named 1) κ1 u8 .own payload-ref (payload-val ∷ []))) (shr-slice-copy 𝓤 H A W (named 1) κ1 u8 .twice payload-ref (payload-val ∷ [])) $ split ! $
-        nothing ! $ move ! (9 ∷ 6 ∷ 3 ∷ 2 ∷ 52 ∷ 11 ∷ 8 ∷ 5 ∷ 54 ∷ 53 ∷ 0 ∷ []) $ group ! 11 $ use1 W (raw (C-list-command-in-place 𝓤 H A at-mem run .pre (to-list-command-in-place starts-α starts-δ lengths-α lengths-δ kinds-α kinds-δ))) (goes-list-command-in-place starts-α starts-δ lengths-α lengths-δ kinds-α kinds-δ (list-command-in-place-asks h opcode payload time reply valid was) (refl, LL.owed PoisonListT.the-type PoisonListL.the-laws (h .poison) _ (LL.owed DeviceT.the-type DeviceL.the-laws h _ was .1 .1 .1 .1 .1 .0) .1 .1 .1 .0 .1) (refl, LL.owed PoisonListT.the-type PoisonListL.the-laws (h .poison) _ (LL.owed DeviceT.the-type DeviceL.the-laws h _ was .1 .1 .1 .1 .1 .0) .1 .1 .1 .1 .1 .0 .1) (LL.owed DeviceT.the-type DeviceL.the-laws h _ was .1 .1 .0) (refl, LL.owed DeviceT.the-type DeviceL.the-laws h _ was .0 .1) (refl, LL.owed DeviceT.the-type DeviceL.the-laws h _ was .1 .0 .1)) $
-        calls-at ! fm (C-list-command-in-place 𝓤 H A at-mem run) k-list-command-in-place (to-list-command-in-place starts-α starts-δ lengths-α lengths-δ kinds-α kinds-δ) (and-then ! (load ! (from ! (stop !)) (look ! 29 refl)) (and-then ! (load ! (from ! (stop !)) (look ! 27 refl)) (and-then ! (load ! (from ! (stop !)) (look ! 25 refl)) (and-then ! (load ! (from ! (stop !)) (look ! 23 refl)) (and-then ! (load ! (from ! (stop !)) (look ! 21 refl)) (and-then ! (load ! (from ! (stop !)) (look ! 19 refl)) (and-then ! (load ! (from ! (stop !)) (look ! 17 refl)) (and-then ! (load ! (from ! (stop !)) (look ! 15 refl)) (and-then ! (load ! (from ! (stop !)) (look ! 13 refl)) (and-then ! (load ! (from ! (stop !)) (look ! 39 refl)) (and-then ! (load ! (from ! (stop !)) (look ! 37 refl)) (and-then ! (load ! (from ! (stop !)) (look ! 35 refl)) (and-then ! (load ! (from ! (stop !)) (look ! 9 refl)) (no-more !)))))))))))))) (λ v-list-command-in-place.
-        use1 W (later (some (λ (r-list-command-in-place : ListLeft). ((‵ (flft (starts-α ∷ []) fullShare) ⊛ ‵ (flft (lengths-α ∷ []) fullShare) ⊛ ‵ (flft (kinds-α ∷ []) fullShare) ⊛ ‵ (flft κ1 q1) ⊛ ‵ (flft κ2 q2) ⊛ ‵ ftrue) ⊛ ‵ (ListLeftT.the-row .own r-list-command-in-place (v-list-command-in-place ∷ []))) ⊛ raw (ensured 𝓤 H A g-list-command-in-place.ended (g-list-command-in-place.clauses 𝓤 H A at-mem run) ((starts-α ∷ []), ((lengths-α ∷ []), ((kinds-α ∷ []), (κ1, (κ2, tt))))) (starts-ref starts-δ, (lengths-ref lengths-δ, (kinds-ref kinds-δ, ((h .poison) .count, ((h .poison) .overflow, ((h .poison) .«overflow_time», (h .clock, (h .volatile, (h .persistent, (opcode, (payload-ref, (time, (reply-ref, tt))))))))))))) tt r-list-command-in-place)))) (id⊢ 𝓤 _) $ await ! tt $ pick ! (λ r-list-command-in-place. split ! $
-        move ! (1 ∷ []) $ use1 W (some (λ (ws-list-command-in-place : List ℕ × (List ℕ × (List ℕ × (Unit {0} × (Unit {0} × (Unit {0} × (Unit {0} × (Unit {0} × (Unit {0} × (Unit {0} × (Unit {0} × (Unit {0} × (List ℕ × Unit {0}))))))))))))). ‵ (lasts g-list-command-in-place.ended ((starts-α ∷ []), ((lengths-α ∷ []), ((kinds-α ∷ []), (κ1, (κ2, tt))))) (starts-ref starts-δ, (lengths-ref lengths-δ, (kinds-ref kinds-δ, ((h .poison) .count, ((h .poison) .overflow, ((h .poison) .«overflow_time», (h .clock, (h .volatile, (h .persistent, (opcode, (payload-ref, (time, (reply-ref, tt))))))))))))) ws-list-command-in-place) ⊛ raw (fact 𝓤 (ListAnswered (h .volatile) (h .persistent) (h .clock) (list-of (h .poison .starts) (h .poison .lengths) (h .poison .kinds) ((h .poison) .count) ((h .poison) .overflow) ((h .poison) .«overflow_time»)) opcode payload time (record { code = r-list-command-in-place .code; length = r-list-command-in-place .length; list = list-of (ws-list-command-in-place .0) (ws-list-command-in-place .1 .0) (ws-list-command-in-place .1 .1 .0) (r-list-command-in-place .count) (r-list-command-in-place .overflow) (r-list-command-in-place .since) }) reply (ws-list-command-in-place .1 .1 .1 .1 .1 .1 .1 .1 .1 .1 .1 .1 .0))))) (id⊢ 𝓤 _) $ pick ! (λ ws-list-command-in-place. split ! $
-        move ! (1 ∷ []) $ heard ! (ListAnswered (h .volatile) (h .persistent) (h .clock) (list-of (h .poison .starts) (h .poison .lengths) (h .poison .kinds) ((h .poison) .count) ((h .poison) .overflow) ((h .poison) .«overflow_time»)) opcode payload time (record { code = r-list-command-in-place .code; length = r-list-command-in-place .length; list = list-of (ws-list-command-in-place .0) (ws-list-command-in-place .1 .0) (ws-list-command-in-place .1 .1 .0) (r-list-command-in-place .count) (r-list-command-in-place .overflow) (r-list-command-in-place .since) }) reply (ws-list-command-in-place .1 .1 .1 .1 .1 .1 .1 .1 .1 .1 .1 .1 .0)) (λ e-list-command-in-place.
-        move ! (0 ∷ []) $ fsplit ! $ move ! (1 ∷ []) $ fsplit ! $ move ! (1 ∷ []) $ fsplit ! $ move ! (1 ∷ []) $ fsplit ! $ drop ! $ move ! (0 ∷ []) $ fsplit ! $ drop ! $ move ! (0 ∷ []) $ fsplit ! $ drop ! $ move ! (0 ∷ []) $ fsplit ! $ drop ! $ move ! (0 ∷ []) $ fsplit ! $ drop ! $ move ! (0 ∷ []) $ fsplit ! $ drop ! $ move ! (0 ∷ []) $ fsplit ! $ drop ! $ move ! (0 ∷ []) $ fsplit ! $ drop ! $ move ! (0 ∷ []) $ fsplit ! $ drop ! $ move ! (0 ∷ []) $ fsplit ! $ fsplit ! $ move ! (1 ∷ []) $ feqL ! (λ long-reply.
+        move ! (52 ∷ []) $ use1 W (‵ (ShrSlice (named 1) κ1 u8 .own payload-ref (payload-val ∷ [])) ⊛ ‵ (ShrSlice (named 1) κ1 u8 .own payload-ref (payload-val ∷ []))) (shr-slice-copy 𝓤 H A W (named 1) κ1 u8 .twice payload-ref (payload-val ∷ [])) $ split ! $
+        nothing ! $ move ! (9 ∷ 6 ∷ 3 ∷ 2 ∷ 54 ∷ 11 ∷ 8 ∷ 5 ∷ 56 ∷ 55 ∷ 0 ∷ []) $ group ! 11 $ use1 W (raw (C-list-command-in-place 𝓤 H A at-mem run .pre (to-list-command-in-place starts-α starts-δ lengths-α lengths-δ kinds-α kinds-δ))) (goes-list-command-in-place starts-α starts-δ lengths-α lengths-δ kinds-α kinds-δ (list-command-in-place-asks h opcode payload time reply valid was) (refl, LL.owed PoisonListT.the-type PoisonListL.the-laws (h .poison) _ (LL.owed DeviceT.the-type DeviceL.the-laws h _ was .1 .1 .1 .1 .1 .0) .1 .1 .1 .0 .1) (refl, LL.owed PoisonListT.the-type PoisonListL.the-laws (h .poison) _ (LL.owed DeviceT.the-type DeviceL.the-laws h _ was .1 .1 .1 .1 .1 .0) .1 .1 .1 .1 .1 .0 .1) (LL.owed DeviceT.the-type DeviceL.the-laws h _ was .1 .1 .0) (refl, LL.owed DeviceT.the-type DeviceL.the-laws h _ was .0 .1) (refl, LL.owed DeviceT.the-type DeviceL.the-laws h _ was .1 .0 .1)) $
+        calls-at ! fm (C-list-command-in-place 𝓤 H A at-mem run) k-list-command-in-place (to-list-command-in-place starts-α starts-δ lengths-α lengths-δ kinds-α kinds-δ) (and-then ! (load ! (from ! (stop !)) (look ! 31 refl)) (and-then ! (load ! (from ! (stop !)) (look ! 29 refl)) (and-then ! (load ! (from ! (stop !)) (look ! 27 refl)) (and-then ! (load ! (from ! (stop !)) (look ! 25 refl)) (and-then ! (load ! (from ! (stop !)) (look ! 23 refl)) (and-then ! (load ! (from ! (stop !)) (look ! 21 refl)) (and-then ! (load ! (from ! (stop !)) (look ! 19 refl)) (and-then ! (load ! (from ! (stop !)) (look ! 17 refl)) (and-then ! (load ! (from ! (stop !)) (look ! 15 refl)) (and-then ! (load ! (from ! (stop !)) (look ! 13 refl)) (and-then ! (load ! (from ! (stop !)) (look ! 41 refl)) (and-then ! (load ! (from ! (stop !)) (look ! 39 refl)) (and-then ! (load ! (from ! (stop !)) (look ! 37 refl)) (and-then ! (load ! (from ! (stop !)) (look ! 9 refl)) (no-more !))))))))))))))) (λ v-list-command-in-place.
+        use1 W (later (some (λ (r-list-command-in-place : ListLeft). ((‵ (flft (starts-α ∷ []) fullShare) ⊛ ‵ (flft (lengths-α ∷ []) fullShare) ⊛ ‵ (flft (kinds-α ∷ []) fullShare) ⊛ ‵ (flft κ1 q1) ⊛ ‵ (flft κ2 q2) ⊛ ‵ ftrue) ⊛ ‵ (ListLeftT.the-row .own r-list-command-in-place (v-list-command-in-place ∷ []))) ⊛ raw (ensured 𝓤 H A g-list-command-in-place.ended (g-list-command-in-place.clauses 𝓤 H A at-mem run) ((starts-α ∷ []), ((lengths-α ∷ []), ((kinds-α ∷ []), (κ1, (κ2, tt))))) (starts-ref starts-δ, (lengths-ref lengths-δ, (kinds-ref kinds-δ, ((h .poison) .count, ((h .poison) .overflow, ((h .poison) .«overflow_time», (h .clock, (h .volatile, (h .persistent, ((h .media) .disabled, (opcode, (payload-ref, (time, (reply-ref, tt)))))))))))))) tt r-list-command-in-place)))) (id⊢ 𝓤 _) $ await ! tt $ pick ! (λ r-list-command-in-place. split ! $
+        move ! (1 ∷ []) $ use1 W (some (λ (ws-list-command-in-place : List ℕ × (List ℕ × (List ℕ × (Unit {0} × (Unit {0} × (Unit {0} × (Unit {0} × (Unit {0} × (Unit {0} × (Unit {0} × (Unit {0} × (Unit {0} × (Unit {0} × (List ℕ × Unit {0})))))))))))))). ‵ (lasts g-list-command-in-place.ended ((starts-α ∷ []), ((lengths-α ∷ []), ((kinds-α ∷ []), (κ1, (κ2, tt))))) (starts-ref starts-δ, (lengths-ref lengths-δ, (kinds-ref kinds-δ, ((h .poison) .count, ((h .poison) .overflow, ((h .poison) .«overflow_time», (h .clock, (h .volatile, (h .persistent, ((h .media) .disabled, (opcode, (payload-ref, (time, (reply-ref, tt)))))))))))))) ws-list-command-in-place) ⊛ raw (fact 𝓤 (ListAnswered ((h .media) .disabled) (h .volatile) (h .persistent) (h .clock) (list-of (h .poison .starts) (h .poison .lengths) (h .poison .kinds) ((h .poison) .count) ((h .poison) .overflow) ((h .poison) .«overflow_time»)) opcode payload time (record { code = r-list-command-in-place .code; length = r-list-command-in-place .length; list = list-of (ws-list-command-in-place .0) (ws-list-command-in-place .1 .0) (ws-list-command-in-place .1 .1 .0) (r-list-command-in-place .count) (r-list-command-in-place .overflow) (r-list-command-in-place .since) }) reply (ws-list-command-in-place .1 .1 .1 .1 .1 .1 .1 .1 .1 .1 .1 .1 .1 .0))))) (id⊢ 𝓤 _) $ pick ! (λ ws-list-command-in-place. split ! $
+        move ! (1 ∷ []) $ heard ! (ListAnswered ((h .media) .disabled) (h .volatile) (h .persistent) (h .clock) (list-of (h .poison .starts) (h .poison .lengths) (h .poison .kinds) ((h .poison) .count) ((h .poison) .overflow) ((h .poison) .«overflow_time»)) opcode payload time (record { code = r-list-command-in-place .code; length = r-list-command-in-place .length; list = list-of (ws-list-command-in-place .0) (ws-list-command-in-place .1 .0) (ws-list-command-in-place .1 .1 .0) (r-list-command-in-place .count) (r-list-command-in-place .overflow) (r-list-command-in-place .since) }) reply (ws-list-command-in-place .1 .1 .1 .1 .1 .1 .1 .1 .1 .1 .1 .1 .1 .0)) (λ e-list-command-in-place.
+        move ! (0 ∷ []) $ fsplit ! $ move ! (1 ∷ []) $ fsplit ! $ move ! (1 ∷ []) $ fsplit ! $ move ! (1 ∷ []) $ fsplit ! $ drop ! $ move ! (0 ∷ []) $ fsplit ! $ drop ! $ move ! (0 ∷ []) $ fsplit ! $ drop ! $ move ! (0 ∷ []) $ fsplit ! $ drop ! $ move ! (0 ∷ []) $ fsplit ! $ drop ! $ move ! (0 ∷ []) $ fsplit ! $ drop ! $ move ! (0 ∷ []) $ fsplit ! $ drop ! $ move ! (0 ∷ []) $ fsplit ! $ drop ! $ move ! (0 ∷ []) $ fsplit ! $ drop ! $ move ! (0 ∷ []) $ fsplit ! $ drop ! $ move ! (0 ∷ []) $ fsplit ! $ fsplit ! $ move ! (1 ∷ []) $ feqL ! (λ long-reply.
         move ! (1 ∷ []) $ drop ! $ move ! (4 ∷ []) $ split ! $ move ! (0 ∷ []) $ split ! $ move ! (1 ∷ []) $ split ! $ move ! (1 ∷ []) $ split ! $ move ! (1 ∷ []) $ split ! $ move ! (1 ∷ []) $ split ! $ move ! (1 ∷ []) $ drop ! $ move ! (5 ∷ []) $ facts ! ListLeftT.the-row (Is ListLeftT.the-row) (shows 𝓤 H A ListLeftT.the-row) r-list-command-in-place (v-list-command-in-place ∷ []) (λ i-list-command-in-place.
-        land ! (from ! (stop !)) (init ! 39 refl (LL.lawful ListLeftT.the-type ListLeftL.the-laws 𝓤 H A W .typed r-list-command-in-place _ i-list-command-in-place .0)) $ rewrite ! 39 (λ (u : Val). ‵ (fat fullShare ListLeftL.mir l₆ 0 u)) (ap only (LL.tells ListLeftT.the-type ListLeftL.the-laws r-list-command-in-place _ i-list-command-in-place)) refl $
+        land ! (from ! (stop !)) (init ! 41 refl (LL.lawful ListLeftT.the-type ListLeftL.the-laws 𝓤 H A W .typed r-list-command-in-place _ i-list-command-in-place .0)) $ rewrite ! 41 (λ (u : Val). ‵ (fat fullShare ListLeftL.mir l₆ 0 u)) (ap only (LL.tells ListLeftT.the-type ListLeftL.the-laws r-list-command-in-place _ i-list-command-in-place)) refl $
         -- and come back
         move ! (4 ∷ []) $ lft-end ! tt $ move ! (0 ∷ 12 ∷ 8 ∷ []) $ use3 W (later (‵ (Starts 𝓤 H A W b o h (ws-list-command-in-place .0)))) (ref-back 𝓤 H A W (Array u32 256) (starts-α ∷ []) starts-δ (ws-list-command-in-place .0) b (o + 5320 + 0)) $ await ! tt $
         move ! (4 ∷ []) $ lft-end ! tt $ move ! (0 ∷ 10 ∷ 7 ∷ []) $ use3 W (later (‵ (Lengths 𝓤 H A W b o h (ws-list-command-in-place .1 .0)))) (ref-back 𝓤 H A W (Array u32 256) (lengths-α ∷ []) lengths-δ (ws-list-command-in-place .1 .0) b (o + 5320 + 1024)) $ await ! tt $
         move ! (4 ∷ []) $ lft-end ! tt $ move ! (0 ∷ 8 ∷ 6 ∷ []) $ use3 W (later (‵ (Kinds 𝓤 H A W b o h (ws-list-command-in-place .1 .1 .0)))) (ref-back 𝓤 H A W (Array u8 256) (kinds-α ∷ []) kinds-δ (ws-list-command-in-place .1 .1 .0) b (o + 5320 + 2048)) $ await ! tt $
         move ! (2 ∷ 1 ∷ 0 ∷ 7 ∷ []) $ group ! 4 $ use1 W (‵ (fat fullShare DeviceL.mir b o (mach (with-slots h (ws-list-command-in-place .0) (ws-list-command-in-place .1 .0) (ws-list-command-in-place .1 .1 .0)))) ⊛ raw (fact 𝓤 (Is DeviceT.the-row (with-slots h (ws-list-command-in-place .0) (ws-list-command-in-place .1 .0) (ws-list-command-in-place .1 .1 .0)) (mach (with-slots h (ws-list-command-in-place .0) (ws-list-command-in-place .1 .0) (ws-list-command-in-place .1 .1 .0)) ∷ [])))) (slots-in 𝓤 H A W b o h was (ws-list-command-in-place .0) (ws-list-command-in-place .1 .0) (ws-list-command-in-place .1 .1 .0)) $ split ! $ move ! (1 ∷ []) $ heard ! (Is DeviceT.the-row (with-slots h (ws-list-command-in-place .0) (ws-list-command-in-place .1 .0) (ws-list-command-in-place .1 .1 .0)) (mach (with-slots h (ws-list-command-in-place .0) (ws-list-command-in-place .1 .0) (ws-list-command-in-place .1 .1 .0)) ∷ [])) (λ held.
         -- (*device).5.3 = _6.2
-        assigns ! (of-opd ! (load ! (from ! (fld ! refl (stop !))) (look-in ! 30 (sub ! 2 refl (whole !))))) (from ! (hop ! (look ! 40 refl) (fld ! refl (fld ! refl (stop !))))) (store-in ! 0 (sub ! 3 refl (sub ! 5 refl (whole !))) (tt, record { fits = LL.owed ListLeftT.the-type ListLeftL.the-laws r-list-command-in-place _ i-list-command-in-place .1 .1 .0 .1 })) $
+        assigns ! (of-opd ! (load ! (from ! (fld ! refl (stop !))) (look-in ! 32 (sub ! 2 refl (whole !))))) (from ! (hop ! (look ! 42 refl) (fld ! refl (fld ! refl (stop !))))) (store-in ! 0 (sub ! 3 refl (sub ! 5 refl (whole !))) (tt, record { fits = LL.owed ListLeftT.the-type ListLeftL.the-laws r-list-command-in-place _ i-list-command-in-place .1 .1 .0 .1 })) $
         -- (*device).5.4 = _6.3
-        assigns ! (of-opd ! (load ! (from ! (fld ! refl (stop !))) (look-in ! 30 (sub ! 3 refl (whole !))))) (from ! (hop ! (look ! 40 refl) (fld ! refl (fld ! refl (stop !))))) (store-in ! 0 (sub ! 4 refl (sub ! 5 refl (whole !))) (tt, tt)) $
+        assigns ! (of-opd ! (load ! (from ! (fld ! refl (stop !))) (look-in ! 32 (sub ! 3 refl (whole !))))) (from ! (hop ! (look ! 42 refl) (fld ! refl (fld ! refl (stop !))))) (store-in ! 0 (sub ! 4 refl (sub ! 5 refl (whole !))) (tt, tt)) $
         -- (*device).5.5 = _6.4
-        assigns ! (of-opd ! (load ! (from ! (fld ! refl (stop !))) (look-in ! 30 (sub ! 4 refl (whole !))))) (from ! (hop ! (look ! 40 refl) (fld ! refl (fld ! refl (stop !))))) (store-in ! 0 (sub ! 5 refl (sub ! 5 refl (whole !))) (tt, record { fits = LL.owed ListLeftT.the-type ListLeftL.the-laws r-list-command-in-place _ i-list-command-in-place .1 .1 .1 .1 .0 .1 })) $
+        assigns ! (of-opd ! (load ! (from ! (fld ! refl (stop !))) (look-in ! 32 (sub ! 4 refl (whole !))))) (from ! (hop ! (look ! 42 refl) (fld ! refl (fld ! refl (stop !))))) (store-in ! 0 (sub ! 5 refl (sub ! 5 refl (whole !))) (tt, record { fits = LL.owed ListLeftT.the-type ListLeftL.the-laws r-list-command-in-place _ i-list-command-in-place .1 .1 .1 .1 .0 .1 })) $
         -- _0 = {_6.0, 0, _6.1}
-        assigns ! (agg ! (and-then ! (load ! (from ! (fld ! refl (stop !))) (look-in ! 30 (sub ! 0 refl (whole !)))) (and-then ! (lit ! tt) (and-then ! (load ! (from ! (fld ! refl (stop !))) (look-in ! 30 (sub ! 1 refl (whole !)))) (no-more !))))) (from ! (stop !)) (init ! 42 refl (tt, (record { fits = LL.owed ListLeftT.the-type ListLeftL.the-laws r-list-command-in-place _ i-list-command-in-place .0 .1 }, (record { fits = (omega arith) }, (record { fits = LL.owed ListLeftT.the-type ListLeftL.the-laws r-list-command-in-place _ i-list-command-in-place .1 .0 .1 }, tt))))) $
+        assigns ! (agg ! (and-then ! (load ! (from ! (fld ! refl (stop !))) (look-in ! 32 (sub ! 0 refl (whole !)))) (and-then ! (lit ! tt) (and-then ! (load ! (from ! (fld ! refl (stop !))) (look-in ! 32 (sub ! 1 refl (whole !)))) (no-more !))))) (from ! (stop !)) (init ! 44 refl (tt, (record { fits = LL.owed ListLeftT.the-type ListLeftL.the-laws r-list-command-in-place _ i-list-command-in-place .0 .1 }, (record { fits = (omega arith) }, (record { fits = LL.owed ListLeftT.the-type ListLeftL.the-laws r-list-command-in-place _ i-list-command-in-place .1 .0 .1 }, tt))))) $
         -- return
         -- the borrow is closed
-        move ! (0 ∷ []) $ use1 W (‵ (cellAt fullShare (DeviceT.the-row .mir) (mach (record { volatile = (with-slots h (ws-list-command-in-place .0) (ws-list-command-in-place .1 .0) (ws-list-command-in-place .1 .1 .0)) .volatile; persistent = (with-slots h (ws-list-command-in-place .0) (ws-list-command-in-place .1 .0) (ws-list-command-in-place .1 .1 .0)) .persistent; clock = (with-slots h (ws-list-command-in-place .0) (ws-list-command-in-place .1 .0) (ws-list-command-in-place .1 .1 .0)) .clock; policy = (with-slots h (ws-list-command-in-place .0) (ws-list-command-in-place .1 .0) (ws-list-command-in-place .1 .1 .0)) .policy; logs = (with-slots h (ws-list-command-in-place .0) (ws-list-command-in-place .1 .0) (ws-list-command-in-place .1 .1 .0)) .logs; poison = record { starts = ((with-slots h (ws-list-command-in-place .0) (ws-list-command-in-place .1 .0) (ws-list-command-in-place .1 .1 .0)) .poison) .starts; lengths = ((with-slots h (ws-list-command-in-place .0) (ws-list-command-in-place .1 .0) (ws-list-command-in-place .1 .1 .0)) .poison) .lengths; kinds = ((with-slots h (ws-list-command-in-place .0) (ws-list-command-in-place .1 .0) (ws-list-command-in-place .1 .1 .0)) .poison) .kinds; count = r-list-command-in-place .count; overflow = r-list-command-in-place .overflow; «overflow_time» = r-list-command-in-place .since } }) ∷ []) b o)) (W .laws .at-raw fullShare DeviceL.mir b o (mach (record { volatile = (with-slots h (ws-list-command-in-place .0) (ws-list-command-in-place .1 .0) (ws-list-command-in-place .1 .1 .0)) .volatile; persistent = (with-slots h (ws-list-command-in-place .0) (ws-list-command-in-place .1 .0) (ws-list-command-in-place .1 .1 .0)) .persistent; clock = (with-slots h (ws-list-command-in-place .0) (ws-list-command-in-place .1 .0) (ws-list-command-in-place .1 .1 .0)) .clock; policy = (with-slots h (ws-list-command-in-place .0) (ws-list-command-in-place .1 .0) (ws-list-command-in-place .1 .1 .0)) .policy; logs = (with-slots h (ws-list-command-in-place .0) (ws-list-command-in-place .1 .0) (ws-list-command-in-place .1 .1 .0)) .logs; poison = record { starts = ((with-slots h (ws-list-command-in-place .0) (ws-list-command-in-place .1 .0) (ws-list-command-in-place .1 .1 .0)) .poison) .starts; lengths = ((with-slots h (ws-list-command-in-place .0) (ws-list-command-in-place .1 .0) (ws-list-command-in-place .1 .1 .0)) .poison) .lengths; kinds = ((with-slots h (ws-list-command-in-place .0) (ws-list-command-in-place .1 .0) (ws-list-command-in-place .1 .1 .0)) .poison) .kinds; count = r-list-command-in-place .count; overflow = r-list-command-in-place .overflow; «overflow_time» = r-list-command-in-place .since } }))) $ owned ! DeviceT.the-row (Is DeviceT.the-row) ((LL.makes DeviceT.the-type DeviceL.the-plain) 𝓤 H A) (record { volatile = (with-slots h (ws-list-command-in-place .0) (ws-list-command-in-place .1 .0) (ws-list-command-in-place .1 .1 .0)) .volatile; persistent = (with-slots h (ws-list-command-in-place .0) (ws-list-command-in-place .1 .0) (ws-list-command-in-place .1 .1 .0)) .persistent; clock = (with-slots h (ws-list-command-in-place .0) (ws-list-command-in-place .1 .0) (ws-list-command-in-place .1 .1 .0)) .clock; policy = (with-slots h (ws-list-command-in-place .0) (ws-list-command-in-place .1 .0) (ws-list-command-in-place .1 .1 .0)) .policy; logs = (with-slots h (ws-list-command-in-place .0) (ws-list-command-in-place .1 .0) (ws-list-command-in-place .1 .1 .0)) .logs; poison = record { starts = ((with-slots h (ws-list-command-in-place .0) (ws-list-command-in-place .1 .0) (ws-list-command-in-place .1 .1 .0)) .poison) .starts; lengths = ((with-slots h (ws-list-command-in-place .0) (ws-list-command-in-place .1 .0) (ws-list-command-in-place .1 .1 .0)) .poison) .lengths; kinds = ((with-slots h (ws-list-command-in-place .0) (ws-list-command-in-place .1 .0) (ws-list-command-in-place .1 .1 .0)) .poison) .kinds; count = r-list-command-in-place .count; overflow = r-list-command-in-place .overflow; «overflow_time» = r-list-command-in-place .since } }) (mach (record { volatile = (with-slots h (ws-list-command-in-place .0) (ws-list-command-in-place .1 .0) (ws-list-command-in-place .1 .1 .0)) .volatile; persistent = (with-slots h (ws-list-command-in-place .0) (ws-list-command-in-place .1 .0) (ws-list-command-in-place .1 .1 .0)) .persistent; clock = (with-slots h (ws-list-command-in-place .0) (ws-list-command-in-place .1 .0) (ws-list-command-in-place .1 .1 .0)) .clock; policy = (with-slots h (ws-list-command-in-place .0) (ws-list-command-in-place .1 .0) (ws-list-command-in-place .1 .1 .0)) .policy; logs = (with-slots h (ws-list-command-in-place .0) (ws-list-command-in-place .1 .0) (ws-list-command-in-place .1 .1 .0)) .logs; poison = record { starts = ((with-slots h (ws-list-command-in-place .0) (ws-list-command-in-place .1 .0) (ws-list-command-in-place .1 .1 .0)) .poison) .starts; lengths = ((with-slots h (ws-list-command-in-place .0) (ws-list-command-in-place .1 .0) (ws-list-command-in-place .1 .1 .0)) .poison) .lengths; kinds = ((with-slots h (ws-list-command-in-place .0) (ws-list-command-in-place .1 .0) (ws-list-command-in-place .1 .1 .0)) .poison) .kinds; count = r-list-command-in-place .count; overflow = r-list-command-in-place .overflow; «overflow_time» = r-list-command-in-place .since } }) ∷ []) (put-poison (record { volatile = (with-slots h (ws-list-command-in-place .0) (ws-list-command-in-place .1 .0) (ws-list-command-in-place .1 .1 .0)) .volatile; persistent = (with-slots h (ws-list-command-in-place .0) (ws-list-command-in-place .1 .0) (ws-list-command-in-place .1 .1 .0)) .persistent; clock = (with-slots h (ws-list-command-in-place .0) (ws-list-command-in-place .1 .0) (ws-list-command-in-place .1 .1 .0)) .clock; policy = (with-slots h (ws-list-command-in-place .0) (ws-list-command-in-place .1 .0) (ws-list-command-in-place .1 .1 .0)) .policy; logs = (with-slots h (ws-list-command-in-place .0) (ws-list-command-in-place .1 .0) (ws-list-command-in-place .1 .1 .0)) .logs; poison = record { starts = ((with-slots h (ws-list-command-in-place .0) (ws-list-command-in-place .1 .0) (ws-list-command-in-place .1 .1 .0)) .poison) .starts; lengths = ((with-slots h (ws-list-command-in-place .0) (ws-list-command-in-place .1 .0) (ws-list-command-in-place .1 .1 .0)) .poison) .lengths; kinds = ((with-slots h (ws-list-command-in-place .0) (ws-list-command-in-place .1 .0) (ws-list-command-in-place .1 .1 .0)) .poison) .kinds; count = r-list-command-in-place .count; overflow = r-list-command-in-place .overflow; «overflow_time» = ((with-slots h (ws-list-command-in-place .0) (ws-list-command-in-place .1 .0) (ws-list-command-in-place .1 .1 .0)) .poison) .«overflow_time» } }) (put-poison (record { volatile = (with-slots h (ws-list-command-in-place .0) (ws-list-command-in-place .1 .0) (ws-list-command-in-place .1 .1 .0)) .volatile; persistent = (with-slots h (ws-list-command-in-place .0) (ws-list-command-in-place .1 .0) (ws-list-command-in-place .1 .1 .0)) .persistent; clock = (with-slots h (ws-list-command-in-place .0) (ws-list-command-in-place .1 .0) (ws-list-command-in-place .1 .1 .0)) .clock; policy = (with-slots h (ws-list-command-in-place .0) (ws-list-command-in-place .1 .0) (ws-list-command-in-place .1 .1 .0)) .policy; logs = (with-slots h (ws-list-command-in-place .0) (ws-list-command-in-place .1 .0) (ws-list-command-in-place .1 .1 .0)) .logs; poison = record { starts = ((with-slots h (ws-list-command-in-place .0) (ws-list-command-in-place .1 .0) (ws-list-command-in-place .1 .1 .0)) .poison) .starts; lengths = ((with-slots h (ws-list-command-in-place .0) (ws-list-command-in-place .1 .0) (ws-list-command-in-place .1 .1 .0)) .poison) .lengths; kinds = ((with-slots h (ws-list-command-in-place .0) (ws-list-command-in-place .1 .0) (ws-list-command-in-place .1 .1 .0)) .poison) .kinds; count = r-list-command-in-place .count; overflow = ((with-slots h (ws-list-command-in-place .0) (ws-list-command-in-place .1 .0) (ws-list-command-in-place .1 .1 .0)) .poison) .overflow; «overflow_time» = ((with-slots h (ws-list-command-in-place .0) (ws-list-command-in-place .1 .0) (ws-list-command-in-place .1 .1 .0)) .poison) .«overflow_time» } }) (put-poison (with-slots h (ws-list-command-in-place .0) (ws-list-command-in-place .1 .0) (ws-list-command-in-place .1 .1 .0)) held (record { starts = ((with-slots h (ws-list-command-in-place .0) (ws-list-command-in-place .1 .0) (ws-list-command-in-place .1 .1 .0)) .poison) .starts; lengths = ((with-slots h (ws-list-command-in-place .0) (ws-list-command-in-place .1 .0) (ws-list-command-in-place .1 .1 .0)) .poison) .lengths; kinds = ((with-slots h (ws-list-command-in-place .0) (ws-list-command-in-place .1 .0) (ws-list-command-in-place .1 .1 .0)) .poison) .kinds; count = r-list-command-in-place .count; overflow = ((with-slots h (ws-list-command-in-place .0) (ws-list-command-in-place .1 .0) (ws-list-command-in-place .1 .1 .0)) .poison) .overflow; «overflow_time» = ((with-slots h (ws-list-command-in-place .0) (ws-list-command-in-place .1 .0) (ws-list-command-in-place .1 .1 .0)) .poison) .«overflow_time» }) (LL.owes PoisonListT.the-type PoisonListL.the-laws (record { starts = ((with-slots h (ws-list-command-in-place .0) (ws-list-command-in-place .1 .0) (ws-list-command-in-place .1 .1 .0)) .poison) .starts; lengths = ((with-slots h (ws-list-command-in-place .0) (ws-list-command-in-place .1 .0) (ws-list-command-in-place .1 .1 .0)) .poison) .lengths; kinds = ((with-slots h (ws-list-command-in-place .0) (ws-list-command-in-place .1 .0) (ws-list-command-in-place .1 .1 .0)) .poison) .kinds; count = r-list-command-in-place .count; overflow = ((with-slots h (ws-list-command-in-place .0) (ws-list-command-in-place .1 .0) (ws-list-command-in-place .1 .1 .0)) .poison) .overflow; «overflow_time» = ((with-slots h (ws-list-command-in-place .0) (ws-list-command-in-place .1 .0) (ws-list-command-in-place .1 .1 .0)) .poison) .«overflow_time» }) (LL.owed PoisonListT.the-type PoisonListL.the-laws ((with-slots h (ws-list-command-in-place .0) (ws-list-command-in-place .1 .0) (ws-list-command-in-place .1 .1 .0)) .poison) _ (LL.owed DeviceT.the-type DeviceL.the-laws (with-slots h (ws-list-command-in-place .0) (ws-list-command-in-place .1 .0) (ws-list-command-in-place .1 .1 .0)) _ held .1 .1 .1 .1 .1 .0) .0, (LL.owed PoisonListT.the-type PoisonListL.the-laws ((with-slots h (ws-list-command-in-place .0) (ws-list-command-in-place .1 .0) (ws-list-command-in-place .1 .1 .0)) .poison) _ (LL.owed DeviceT.the-type DeviceL.the-laws (with-slots h (ws-list-command-in-place .0) (ws-list-command-in-place .1 .0) (ws-list-command-in-place .1 .1 .0)) _ held .1 .1 .1 .1 .1 .0) .1 .0, (LL.owed PoisonListT.the-type PoisonListL.the-laws ((with-slots h (ws-list-command-in-place .0) (ws-list-command-in-place .1 .0) (ws-list-command-in-place .1 .1 .0)) .poison) _ (LL.owed DeviceT.the-type DeviceL.the-laws (with-slots h (ws-list-command-in-place .0) (ws-list-command-in-place .1 .0) (ws-list-command-in-place .1 .1 .0)) _ held .1 .1 .1 .1 .1 .0) .1 .1 .0, ((refl, LL.owed ListLeftT.the-type ListLeftL.the-laws r-list-command-in-place _ i-list-command-in-place .1 .1 .0 .1), (refl, ((refl, LL.owed PoisonListT.the-type PoisonListL.the-laws ((with-slots h (ws-list-command-in-place .0) (ws-list-command-in-place .1 .0) (ws-list-command-in-place .1 .1 .0)) .poison) _ (LL.owed DeviceT.the-type DeviceL.the-laws (with-slots h (ws-list-command-in-place .0) (ws-list-command-in-place .1 .0) (ws-list-command-in-place .1 .1 .0)) _ held .1 .1 .1 .1 .1 .0) .1 .1 .1 .1 .1 .0 .1), tt)))))))) (record { starts = ((with-slots h (ws-list-command-in-place .0) (ws-list-command-in-place .1 .0) (ws-list-command-in-place .1 .1 .0)) .poison) .starts; lengths = ((with-slots h (ws-list-command-in-place .0) (ws-list-command-in-place .1 .0) (ws-list-command-in-place .1 .1 .0)) .poison) .lengths; kinds = ((with-slots h (ws-list-command-in-place .0) (ws-list-command-in-place .1 .0) (ws-list-command-in-place .1 .1 .0)) .poison) .kinds; count = r-list-command-in-place .count; overflow = r-list-command-in-place .overflow; «overflow_time» = ((with-slots h (ws-list-command-in-place .0) (ws-list-command-in-place .1 .0) (ws-list-command-in-place .1 .1 .0)) .poison) .«overflow_time» }) (LL.owes PoisonListT.the-type PoisonListL.the-laws (record { starts = ((with-slots h (ws-list-command-in-place .0) (ws-list-command-in-place .1 .0) (ws-list-command-in-place .1 .1 .0)) .poison) .starts; lengths = ((with-slots h (ws-list-command-in-place .0) (ws-list-command-in-place .1 .0) (ws-list-command-in-place .1 .1 .0)) .poison) .lengths; kinds = ((with-slots h (ws-list-command-in-place .0) (ws-list-command-in-place .1 .0) (ws-list-command-in-place .1 .1 .0)) .poison) .kinds; count = r-list-command-in-place .count; overflow = r-list-command-in-place .overflow; «overflow_time» = ((with-slots h (ws-list-command-in-place .0) (ws-list-command-in-place .1 .0) (ws-list-command-in-place .1 .1 .0)) .poison) .«overflow_time» }) (LL.owed PoisonListT.the-type PoisonListL.the-laws ((with-slots h (ws-list-command-in-place .0) (ws-list-command-in-place .1 .0) (ws-list-command-in-place .1 .1 .0)) .poison) _ (LL.owed DeviceT.the-type DeviceL.the-laws (with-slots h (ws-list-command-in-place .0) (ws-list-command-in-place .1 .0) (ws-list-command-in-place .1 .1 .0)) _ held .1 .1 .1 .1 .1 .0) .0, (LL.owed PoisonListT.the-type PoisonListL.the-laws ((with-slots h (ws-list-command-in-place .0) (ws-list-command-in-place .1 .0) (ws-list-command-in-place .1 .1 .0)) .poison) _ (LL.owed DeviceT.the-type DeviceL.the-laws (with-slots h (ws-list-command-in-place .0) (ws-list-command-in-place .1 .0) (ws-list-command-in-place .1 .1 .0)) _ held .1 .1 .1 .1 .1 .0) .1 .0, (LL.owed PoisonListT.the-type PoisonListL.the-laws ((with-slots h (ws-list-command-in-place .0) (ws-list-command-in-place .1 .0) (ws-list-command-in-place .1 .1 .0)) .poison) _ (LL.owed DeviceT.the-type DeviceL.the-laws (with-slots h (ws-list-command-in-place .0) (ws-list-command-in-place .1 .0) (ws-list-command-in-place .1 .1 .0)) _ held .1 .1 .1 .1 .1 .0) .1 .1 .0, ((refl, LL.owed ListLeftT.the-type ListLeftL.the-laws r-list-command-in-place _ i-list-command-in-place .1 .1 .0 .1), (refl, ((refl, LL.owed PoisonListT.the-type PoisonListL.the-laws ((with-slots h (ws-list-command-in-place .0) (ws-list-command-in-place .1 .0) (ws-list-command-in-place .1 .1 .0)) .poison) _ (LL.owed DeviceT.the-type DeviceL.the-laws (with-slots h (ws-list-command-in-place .0) (ws-list-command-in-place .1 .0) (ws-list-command-in-place .1 .1 .0)) _ held .1 .1 .1 .1 .1 .0) .1 .1 .1 .1 .1 .0 .1), tt)))))))) (record { starts = ((with-slots h (ws-list-command-in-place .0) (ws-list-command-in-place .1 .0) (ws-list-command-in-place .1 .1 .0)) .poison) .starts; lengths = ((with-slots h (ws-list-command-in-place .0) (ws-list-command-in-place .1 .0) (ws-list-command-in-place .1 .1 .0)) .poison) .lengths; kinds = ((with-slots h (ws-list-command-in-place .0) (ws-list-command-in-place .1 .0) (ws-list-command-in-place .1 .1 .0)) .poison) .kinds; count = r-list-command-in-place .count; overflow = r-list-command-in-place .overflow; «overflow_time» = r-list-command-in-place .since }) (LL.owes PoisonListT.the-type PoisonListL.the-laws (record { starts = ((with-slots h (ws-list-command-in-place .0) (ws-list-command-in-place .1 .0) (ws-list-command-in-place .1 .1 .0)) .poison) .starts; lengths = ((with-slots h (ws-list-command-in-place .0) (ws-list-command-in-place .1 .0) (ws-list-command-in-place .1 .1 .0)) .poison) .lengths; kinds = ((with-slots h (ws-list-command-in-place .0) (ws-list-command-in-place .1 .0) (ws-list-command-in-place .1 .1 .0)) .poison) .kinds; count = r-list-command-in-place .count; overflow = r-list-command-in-place .overflow; «overflow_time» = r-list-command-in-place .since }) (LL.owed PoisonListT.the-type PoisonListL.the-laws ((with-slots h (ws-list-command-in-place .0) (ws-list-command-in-place .1 .0) (ws-list-command-in-place .1 .1 .0)) .poison) _ (LL.owed DeviceT.the-type DeviceL.the-laws (with-slots h (ws-list-command-in-place .0) (ws-list-command-in-place .1 .0) (ws-list-command-in-place .1 .1 .0)) _ held .1 .1 .1 .1 .1 .0) .0, (LL.owed PoisonListT.the-type PoisonListL.the-laws ((with-slots h (ws-list-command-in-place .0) (ws-list-command-in-place .1 .0) (ws-list-command-in-place .1 .1 .0)) .poison) _ (LL.owed DeviceT.the-type DeviceL.the-laws (with-slots h (ws-list-command-in-place .0) (ws-list-command-in-place .1 .0) (ws-list-command-in-place .1 .1 .0)) _ held .1 .1 .1 .1 .1 .0) .1 .0, (LL.owed PoisonListT.the-type PoisonListL.the-laws ((with-slots h (ws-list-command-in-place .0) (ws-list-command-in-place .1 .0) (ws-list-command-in-place .1 .1 .0)) .poison) _ (LL.owed DeviceT.the-type DeviceL.the-laws (with-slots h (ws-list-command-in-place .0) (ws-list-command-in-place .1 .0) (ws-list-command-in-place .1 .1 .0)) _ held .1 .1 .1 .1 .1 .0) .1 .1 .0, ((refl, LL.owed ListLeftT.the-type ListLeftL.the-laws r-list-command-in-place _ i-list-command-in-place .1 .1 .0 .1), (refl, ((refl, LL.owed ListLeftT.the-type ListLeftL.the-laws r-list-command-in-place _ i-list-command-in-place .1 .1 .1 .1 .0 .1), tt)))))))) $
-        move ! (1 ∷ 0 ∷ 6 ∷ 7 ∷ 8 ∷ []) $ closes ! tt DeviceT.the-row (record { volatile = (with-slots h (ws-list-command-in-place .0) (ws-list-command-in-place .1 .0) (ws-list-command-in-place .1 .1 .0)) .volatile; persistent = (with-slots h (ws-list-command-in-place .0) (ws-list-command-in-place .1 .0) (ws-list-command-in-place .1 .1 .0)) .persistent; clock = (with-slots h (ws-list-command-in-place .0) (ws-list-command-in-place .1 .0) (ws-list-command-in-place .1 .1 .0)) .clock; policy = (with-slots h (ws-list-command-in-place .0) (ws-list-command-in-place .1 .0) (ws-list-command-in-place .1 .1 .0)) .policy; logs = (with-slots h (ws-list-command-in-place .0) (ws-list-command-in-place .1 .0) (ws-list-command-in-place .1 .1 .0)) .logs; poison = record { starts = ((with-slots h (ws-list-command-in-place .0) (ws-list-command-in-place .1 .0) (ws-list-command-in-place .1 .1 .0)) .poison) .starts; lengths = ((with-slots h (ws-list-command-in-place .0) (ws-list-command-in-place .1 .0) (ws-list-command-in-place .1 .1 .0)) .poison) .lengths; kinds = ((with-slots h (ws-list-command-in-place .0) (ws-list-command-in-place .1 .0) (ws-list-command-in-place .1 .1 .0)) .poison) .kinds; count = r-list-command-in-place .count; overflow = r-list-command-in-place .overflow; «overflow_time» = r-list-command-in-place .since } }) (mach (record { volatile = (with-slots h (ws-list-command-in-place .0) (ws-list-command-in-place .1 .0) (ws-list-command-in-place .1 .1 .0)) .volatile; persistent = (with-slots h (ws-list-command-in-place .0) (ws-list-command-in-place .1 .0) (ws-list-command-in-place .1 .1 .0)) .persistent; clock = (with-slots h (ws-list-command-in-place .0) (ws-list-command-in-place .1 .0) (ws-list-command-in-place .1 .1 .0)) .clock; policy = (with-slots h (ws-list-command-in-place .0) (ws-list-command-in-place .1 .0) (ws-list-command-in-place .1 .1 .0)) .policy; logs = (with-slots h (ws-list-command-in-place .0) (ws-list-command-in-place .1 .0) (ws-list-command-in-place .1 .1 .0)) .logs; poison = record { starts = ((with-slots h (ws-list-command-in-place .0) (ws-list-command-in-place .1 .0) (ws-list-command-in-place .1 .1 .0)) .poison) .starts; lengths = ((with-slots h (ws-list-command-in-place .0) (ws-list-command-in-place .1 .0) (ws-list-command-in-place .1 .1 .0)) .poison) .lengths; kinds = ((with-slots h (ws-list-command-in-place .0) (ws-list-command-in-place .1 .0) (ws-list-command-in-place .1 .1 .0)) .poison) .kinds; count = r-list-command-in-place .count; overflow = r-list-command-in-place .overflow; «overflow_time» = r-list-command-in-place .since } }) ∷ []) b o $
-        returns ! (look ! 41 refl) $ forget ! 7 refl $ forget ! 9 refl $ forget ! 11 refl $ forget ! 13 refl $ forget ! 15 refl $ forget ! 17 refl $ forget ! 19 refl $ forget ! 21 refl $ forget ! 23 refl $ forget ! 25 refl $ forget ! 27 refl $ forget ! 29 refl $ forget ! 31 refl $ forget ! 33 refl $ forget ! 35 refl $ forget ! 37 refl $ forget ! 39 refl $ forget ! 41 refl $
-        move ! (41 ∷ 42 ∷ 39 ∷ 40 ∷ 37 ∷ 38 ∷ 35 ∷ 36 ∷ 33 ∷ 34 ∷ 31 ∷ 32 ∷ 29 ∷ 30 ∷ 27 ∷ 28 ∷ 25 ∷ 26 ∷ 23 ∷ 24 ∷ 21 ∷ 22 ∷ 19 ∷ 20 ∷ 17 ∷ 18 ∷ 15 ∷ 16 ∷ 13 ∷ 14 ∷ 11 ∷ 12 ∷ 9 ∷ 10 ∷ 7 ∷ 8 ∷ []) $ free-all ! $
-        keep ! (0 ∷ 1 ∷ 2 ∷ 4 ∷ 3 ∷ 5 ∷ 6 ∷ []) $ by ! (exits (record { code = r-list-command-in-place .code; vector = 0; length = r-list-command-in-place .length }) (record { volatile = (with-slots h (ws-list-command-in-place .0) (ws-list-command-in-place .1 .0) (ws-list-command-in-place .1 .1 .0)) .volatile; persistent = (with-slots h (ws-list-command-in-place .0) (ws-list-command-in-place .1 .0) (ws-list-command-in-place .1 .1 .0)) .persistent; clock = (with-slots h (ws-list-command-in-place .0) (ws-list-command-in-place .1 .0) (ws-list-command-in-place .1 .1 .0)) .clock; policy = (with-slots h (ws-list-command-in-place .0) (ws-list-command-in-place .1 .0) (ws-list-command-in-place .1 .1 .0)) .policy; logs = (with-slots h (ws-list-command-in-place .0) (ws-list-command-in-place .1 .0) (ws-list-command-in-place .1 .1 .0)) .logs; poison = record { starts = ((with-slots h (ws-list-command-in-place .0) (ws-list-command-in-place .1 .0) (ws-list-command-in-place .1 .1 .0)) .poison) .starts; lengths = ((with-slots h (ws-list-command-in-place .0) (ws-list-command-in-place .1 .0) (ws-list-command-in-place .1 .1 .0)) .poison) .lengths; kinds = ((with-slots h (ws-list-command-in-place .0) (ws-list-command-in-place .1 .0) (ws-list-command-in-place .1 .1 .0)) .poison) .kinds; count = r-list-command-in-place .count; overflow = r-list-command-in-place .overflow; «overflow_time» = r-list-command-in-place .since } }) (ws-list-command-in-place .1 .1 .1 .1 .1 .1 .1 .1 .1 .1 .1 .1 .0) _ (so 𝓤 (list-command-in-place-gives h opcode payload time reply valid was r-list-command-in-place (ws-list-command-in-place .0) (ws-list-command-in-place .1 .0) (ws-list-command-in-place .1 .1 .0) (ws-list-command-in-place .1 .1 .1 .1 .1 .1 .1 .1 .1 .1 .1 .1 .0) e-list-command-in-place)) long-reply (LL.owes DoneT.the-type DoneL.the-laws (record { code = r-list-command-in-place .code; vector = 0; length = r-list-command-in-place .length }) ((refl, LL.owed ListLeftT.the-type ListLeftL.the-laws r-list-command-in-place _ i-list-command-in-place .0 .1), ((refl, (omega arith)), ((refl, LL.owed ListLeftT.the-type ListLeftL.the-laws r-list-command-in-place _ i-list-command-in-place .1 .0 .1), tt))))))))))))))))))))))))))))))))))))))
+        move ! (0 ∷ []) $ use1 W (‵ (cellAt fullShare (DeviceT.the-row .mir) (mach (record { volatile = (with-slots h (ws-list-command-in-place .0) (ws-list-command-in-place .1 .0) (ws-list-command-in-place .1 .1 .0)) .volatile; persistent = (with-slots h (ws-list-command-in-place .0) (ws-list-command-in-place .1 .0) (ws-list-command-in-place .1 .1 .0)) .persistent; clock = (with-slots h (ws-list-command-in-place .0) (ws-list-command-in-place .1 .0) (ws-list-command-in-place .1 .1 .0)) .clock; policy = (with-slots h (ws-list-command-in-place .0) (ws-list-command-in-place .1 .0) (ws-list-command-in-place .1 .1 .0)) .policy; logs = (with-slots h (ws-list-command-in-place .0) (ws-list-command-in-place .1 .0) (ws-list-command-in-place .1 .1 .0)) .logs; poison = record { starts = ((with-slots h (ws-list-command-in-place .0) (ws-list-command-in-place .1 .0) (ws-list-command-in-place .1 .1 .0)) .poison) .starts; lengths = ((with-slots h (ws-list-command-in-place .0) (ws-list-command-in-place .1 .0) (ws-list-command-in-place .1 .1 .0)) .poison) .lengths; kinds = ((with-slots h (ws-list-command-in-place .0) (ws-list-command-in-place .1 .0) (ws-list-command-in-place .1 .1 .0)) .poison) .kinds; count = r-list-command-in-place .count; overflow = r-list-command-in-place .overflow; «overflow_time» = r-list-command-in-place .since }; media = (with-slots h (ws-list-command-in-place .0) (ws-list-command-in-place .1 .0) (ws-list-command-in-place .1 .1 .0)) .media }) ∷ []) b o)) (W .laws .at-raw fullShare DeviceL.mir b o (mach (record { volatile = (with-slots h (ws-list-command-in-place .0) (ws-list-command-in-place .1 .0) (ws-list-command-in-place .1 .1 .0)) .volatile; persistent = (with-slots h (ws-list-command-in-place .0) (ws-list-command-in-place .1 .0) (ws-list-command-in-place .1 .1 .0)) .persistent; clock = (with-slots h (ws-list-command-in-place .0) (ws-list-command-in-place .1 .0) (ws-list-command-in-place .1 .1 .0)) .clock; policy = (with-slots h (ws-list-command-in-place .0) (ws-list-command-in-place .1 .0) (ws-list-command-in-place .1 .1 .0)) .policy; logs = (with-slots h (ws-list-command-in-place .0) (ws-list-command-in-place .1 .0) (ws-list-command-in-place .1 .1 .0)) .logs; poison = record { starts = ((with-slots h (ws-list-command-in-place .0) (ws-list-command-in-place .1 .0) (ws-list-command-in-place .1 .1 .0)) .poison) .starts; lengths = ((with-slots h (ws-list-command-in-place .0) (ws-list-command-in-place .1 .0) (ws-list-command-in-place .1 .1 .0)) .poison) .lengths; kinds = ((with-slots h (ws-list-command-in-place .0) (ws-list-command-in-place .1 .0) (ws-list-command-in-place .1 .1 .0)) .poison) .kinds; count = r-list-command-in-place .count; overflow = r-list-command-in-place .overflow; «overflow_time» = r-list-command-in-place .since }; media = (with-slots h (ws-list-command-in-place .0) (ws-list-command-in-place .1 .0) (ws-list-command-in-place .1 .1 .0)) .media }))) $ owned ! DeviceT.the-row (Is DeviceT.the-row) ((LL.makes DeviceT.the-type DeviceL.the-plain) 𝓤 H A) (record { volatile = (with-slots h (ws-list-command-in-place .0) (ws-list-command-in-place .1 .0) (ws-list-command-in-place .1 .1 .0)) .volatile; persistent = (with-slots h (ws-list-command-in-place .0) (ws-list-command-in-place .1 .0) (ws-list-command-in-place .1 .1 .0)) .persistent; clock = (with-slots h (ws-list-command-in-place .0) (ws-list-command-in-place .1 .0) (ws-list-command-in-place .1 .1 .0)) .clock; policy = (with-slots h (ws-list-command-in-place .0) (ws-list-command-in-place .1 .0) (ws-list-command-in-place .1 .1 .0)) .policy; logs = (with-slots h (ws-list-command-in-place .0) (ws-list-command-in-place .1 .0) (ws-list-command-in-place .1 .1 .0)) .logs; poison = record { starts = ((with-slots h (ws-list-command-in-place .0) (ws-list-command-in-place .1 .0) (ws-list-command-in-place .1 .1 .0)) .poison) .starts; lengths = ((with-slots h (ws-list-command-in-place .0) (ws-list-command-in-place .1 .0) (ws-list-command-in-place .1 .1 .0)) .poison) .lengths; kinds = ((with-slots h (ws-list-command-in-place .0) (ws-list-command-in-place .1 .0) (ws-list-command-in-place .1 .1 .0)) .poison) .kinds; count = r-list-command-in-place .count; overflow = r-list-command-in-place .overflow; «overflow_time» = r-list-command-in-place .since }; media = (with-slots h (ws-list-command-in-place .0) (ws-list-command-in-place .1 .0) (ws-list-command-in-place .1 .1 .0)) .media }) (mach (record { volatile = (with-slots h (ws-list-command-in-place .0) (ws-list-command-in-place .1 .0) (ws-list-command-in-place .1 .1 .0)) .volatile; persistent = (with-slots h (ws-list-command-in-place .0) (ws-list-command-in-place .1 .0) (ws-list-command-in-place .1 .1 .0)) .persistent; clock = (with-slots h (ws-list-command-in-place .0) (ws-list-command-in-place .1 .0) (ws-list-command-in-place .1 .1 .0)) .clock; policy = (with-slots h (ws-list-command-in-place .0) (ws-list-command-in-place .1 .0) (ws-list-command-in-place .1 .1 .0)) .policy; logs = (with-slots h (ws-list-command-in-place .0) (ws-list-command-in-place .1 .0) (ws-list-command-in-place .1 .1 .0)) .logs; poison = record { starts = ((with-slots h (ws-list-command-in-place .0) (ws-list-command-in-place .1 .0) (ws-list-command-in-place .1 .1 .0)) .poison) .starts; lengths = ((with-slots h (ws-list-command-in-place .0) (ws-list-command-in-place .1 .0) (ws-list-command-in-place .1 .1 .0)) .poison) .lengths; kinds = ((with-slots h (ws-list-command-in-place .0) (ws-list-command-in-place .1 .0) (ws-list-command-in-place .1 .1 .0)) .poison) .kinds; count = r-list-command-in-place .count; overflow = r-list-command-in-place .overflow; «overflow_time» = r-list-command-in-place .since }; media = (with-slots h (ws-list-command-in-place .0) (ws-list-command-in-place .1 .0) (ws-list-command-in-place .1 .1 .0)) .media }) ∷ []) (put-poison (record { volatile = (with-slots h (ws-list-command-in-place .0) (ws-list-command-in-place .1 .0) (ws-list-command-in-place .1 .1 .0)) .volatile; persistent = (with-slots h (ws-list-command-in-place .0) (ws-list-command-in-place .1 .0) (ws-list-command-in-place .1 .1 .0)) .persistent; clock = (with-slots h (ws-list-command-in-place .0) (ws-list-command-in-place .1 .0) (ws-list-command-in-place .1 .1 .0)) .clock; policy = (with-slots h (ws-list-command-in-place .0) (ws-list-command-in-place .1 .0) (ws-list-command-in-place .1 .1 .0)) .policy; logs = (with-slots h (ws-list-command-in-place .0) (ws-list-command-in-place .1 .0) (ws-list-command-in-place .1 .1 .0)) .logs; poison = record { starts = ((with-slots h (ws-list-command-in-place .0) (ws-list-command-in-place .1 .0) (ws-list-command-in-place .1 .1 .0)) .poison) .starts; lengths = ((with-slots h (ws-list-command-in-place .0) (ws-list-command-in-place .1 .0) (ws-list-command-in-place .1 .1 .0)) .poison) .lengths; kinds = ((with-slots h (ws-list-command-in-place .0) (ws-list-command-in-place .1 .0) (ws-list-command-in-place .1 .1 .0)) .poison) .kinds; count = r-list-command-in-place .count; overflow = r-list-command-in-place .overflow; «overflow_time» = ((with-slots h (ws-list-command-in-place .0) (ws-list-command-in-place .1 .0) (ws-list-command-in-place .1 .1 .0)) .poison) .«overflow_time» }; media = (with-slots h (ws-list-command-in-place .0) (ws-list-command-in-place .1 .0) (ws-list-command-in-place .1 .1 .0)) .media }) (put-poison (record { volatile = (with-slots h (ws-list-command-in-place .0) (ws-list-command-in-place .1 .0) (ws-list-command-in-place .1 .1 .0)) .volatile; persistent = (with-slots h (ws-list-command-in-place .0) (ws-list-command-in-place .1 .0) (ws-list-command-in-place .1 .1 .0)) .persistent; clock = (with-slots h (ws-list-command-in-place .0) (ws-list-command-in-place .1 .0) (ws-list-command-in-place .1 .1 .0)) .clock; policy = (with-slots h (ws-list-command-in-place .0) (ws-list-command-in-place .1 .0) (ws-list-command-in-place .1 .1 .0)) .policy; logs = (with-slots h (ws-list-command-in-place .0) (ws-list-command-in-place .1 .0) (ws-list-command-in-place .1 .1 .0)) .logs; poison = record { starts = ((with-slots h (ws-list-command-in-place .0) (ws-list-command-in-place .1 .0) (ws-list-command-in-place .1 .1 .0)) .poison) .starts; lengths = ((with-slots h (ws-list-command-in-place .0) (ws-list-command-in-place .1 .0) (ws-list-command-in-place .1 .1 .0)) .poison) .lengths; kinds = ((with-slots h (ws-list-command-in-place .0) (ws-list-command-in-place .1 .0) (ws-list-command-in-place .1 .1 .0)) .poison) .kinds; count = r-list-command-in-place .count; overflow = ((with-slots h (ws-list-command-in-place .0) (ws-list-command-in-place .1 .0) (ws-list-command-in-place .1 .1 .0)) .poison) .overflow; «overflow_time» = ((with-slots h (ws-list-command-in-place .0) (ws-list-command-in-place .1 .0) (ws-list-command-in-place .1 .1 .0)) .poison) .«overflow_time» }; media = (with-slots h (ws-list-command-in-place .0) (ws-list-command-in-place .1 .0) (ws-list-command-in-place .1 .1 .0)) .media }) (put-poison (with-slots h (ws-list-command-in-place .0) (ws-list-command-in-place .1 .0) (ws-list-command-in-place .1 .1 .0)) held (record { starts = ((with-slots h (ws-list-command-in-place .0) (ws-list-command-in-place .1 .0) (ws-list-command-in-place .1 .1 .0)) .poison) .starts; lengths = ((with-slots h (ws-list-command-in-place .0) (ws-list-command-in-place .1 .0) (ws-list-command-in-place .1 .1 .0)) .poison) .lengths; kinds = ((with-slots h (ws-list-command-in-place .0) (ws-list-command-in-place .1 .0) (ws-list-command-in-place .1 .1 .0)) .poison) .kinds; count = r-list-command-in-place .count; overflow = ((with-slots h (ws-list-command-in-place .0) (ws-list-command-in-place .1 .0) (ws-list-command-in-place .1 .1 .0)) .poison) .overflow; «overflow_time» = ((with-slots h (ws-list-command-in-place .0) (ws-list-command-in-place .1 .0) (ws-list-command-in-place .1 .1 .0)) .poison) .«overflow_time» }) (LL.owes PoisonListT.the-type PoisonListL.the-laws (record { starts = ((with-slots h (ws-list-command-in-place .0) (ws-list-command-in-place .1 .0) (ws-list-command-in-place .1 .1 .0)) .poison) .starts; lengths = ((with-slots h (ws-list-command-in-place .0) (ws-list-command-in-place .1 .0) (ws-list-command-in-place .1 .1 .0)) .poison) .lengths; kinds = ((with-slots h (ws-list-command-in-place .0) (ws-list-command-in-place .1 .0) (ws-list-command-in-place .1 .1 .0)) .poison) .kinds; count = r-list-command-in-place .count; overflow = ((with-slots h (ws-list-command-in-place .0) (ws-list-command-in-place .1 .0) (ws-list-command-in-place .1 .1 .0)) .poison) .overflow; «overflow_time» = ((with-slots h (ws-list-command-in-place .0) (ws-list-command-in-place .1 .0) (ws-list-command-in-place .1 .1 .0)) .poison) .«overflow_time» }) (LL.owed PoisonListT.the-type PoisonListL.the-laws ((with-slots h (ws-list-command-in-place .0) (ws-list-command-in-place .1 .0) (ws-list-command-in-place .1 .1 .0)) .poison) _ (LL.owed DeviceT.the-type DeviceL.the-laws (with-slots h (ws-list-command-in-place .0) (ws-list-command-in-place .1 .0) (ws-list-command-in-place .1 .1 .0)) _ held .1 .1 .1 .1 .1 .0) .0, (LL.owed PoisonListT.the-type PoisonListL.the-laws ((with-slots h (ws-list-command-in-place .0) (ws-list-command-in-place .1 .0) (ws-list-command-in-place .1 .1 .0)) .poison) _ (LL.owed DeviceT.the-type DeviceL.the-laws (with-slots h (ws-list-command-in-place .0) (ws-list-command-in-place .1 .0) (ws-list-command-in-place .1 .1 .0)) _ held .1 .1 .1 .1 .1 .0) .1 .0, (LL.owed PoisonListT.the-type PoisonListL.the-laws ((with-slots h (ws-list-command-in-place .0) (ws-list-command-in-place .1 .0) (ws-list-command-in-place .1 .1 .0)) .poison) _ (LL.owed DeviceT.the-type DeviceL.the-laws (with-slots h (ws-list-command-in-place .0) (ws-list-command-in-place .1 .0) (ws-list-command-in-place .1 .1 .0)) _ held .1 .1 .1 .1 .1 .0) .1 .1 .0, ((refl, LL.owed ListLeftT.the-type ListLeftL.the-laws r-list-command-in-place _ i-list-command-in-place .1 .1 .0 .1), (refl, ((refl, LL.owed PoisonListT.the-type PoisonListL.the-laws ((with-slots h (ws-list-command-in-place .0) (ws-list-command-in-place .1 .0) (ws-list-command-in-place .1 .1 .0)) .poison) _ (LL.owed DeviceT.the-type DeviceL.the-laws (with-slots h (ws-list-command-in-place .0) (ws-list-command-in-place .1 .0) (ws-list-command-in-place .1 .1 .0)) _ held .1 .1 .1 .1 .1 .0) .1 .1 .1 .1 .1 .0 .1), tt)))))))) (record { starts = ((with-slots h (ws-list-command-in-place .0) (ws-list-command-in-place .1 .0) (ws-list-command-in-place .1 .1 .0)) .poison) .starts; lengths = ((with-slots h (ws-list-command-in-place .0) (ws-list-command-in-place .1 .0) (ws-list-command-in-place .1 .1 .0)) .poison) .lengths; kinds = ((with-slots h (ws-list-command-in-place .0) (ws-list-command-in-place .1 .0) (ws-list-command-in-place .1 .1 .0)) .poison) .kinds; count = r-list-command-in-place .count; overflow = r-list-command-in-place .overflow; «overflow_time» = ((with-slots h (ws-list-command-in-place .0) (ws-list-command-in-place .1 .0) (ws-list-command-in-place .1 .1 .0)) .poison) .«overflow_time» }) (LL.owes PoisonListT.the-type PoisonListL.the-laws (record { starts = ((with-slots h (ws-list-command-in-place .0) (ws-list-command-in-place .1 .0) (ws-list-command-in-place .1 .1 .0)) .poison) .starts; lengths = ((with-slots h (ws-list-command-in-place .0) (ws-list-command-in-place .1 .0) (ws-list-command-in-place .1 .1 .0)) .poison) .lengths; kinds = ((with-slots h (ws-list-command-in-place .0) (ws-list-command-in-place .1 .0) (ws-list-command-in-place .1 .1 .0)) .poison) .kinds; count = r-list-command-in-place .count; overflow = r-list-command-in-place .overflow; «overflow_time» = ((with-slots h (ws-list-command-in-place .0) (ws-list-command-in-place .1 .0) (ws-list-command-in-place .1 .1 .0)) .poison) .«overflow_time» }) (LL.owed PoisonListT.the-type PoisonListL.the-laws ((with-slots h (ws-list-command-in-place .0) (ws-list-command-in-place .1 .0) (ws-list-command-in-place .1 .1 .0)) .poison) _ (LL.owed DeviceT.the-type DeviceL.the-laws (with-slots h (ws-list-command-in-place .0) (ws-list-command-in-place .1 .0) (ws-list-command-in-place .1 .1 .0)) _ held .1 .1 .1 .1 .1 .0) .0, (LL.owed PoisonListT.the-type PoisonListL.the-laws ((with-slots h (ws-list-command-in-place .0) (ws-list-command-in-place .1 .0) (ws-list-command-in-place .1 .1 .0)) .poison) _ (LL.owed DeviceT.the-type DeviceL.the-laws (with-slots h (ws-list-command-in-place .0) (ws-list-command-in-place .1 .0) (ws-list-command-in-place .1 .1 .0)) _ held .1 .1 .1 .1 .1 .0) .1 .0, (LL.owed PoisonListT.the-type PoisonListL.the-laws ((with-slots h (ws-list-command-in-place .0) (ws-list-command-in-place .1 .0) (ws-list-command-in-place .1 .1 .0)) .poison) _ (LL.owed DeviceT.the-type DeviceL.the-laws (with-slots h (ws-list-command-in-place .0) (ws-list-command-in-place .1 .0) (ws-list-command-in-place .1 .1 .0)) _ held .1 .1 .1 .1 .1 .0) .1 .1 .0, ((refl, LL.owed ListLeftT.the-type ListLeftL.the-laws r-list-command-in-place _ i-list-command-in-place .1 .1 .0 .1), (refl, ((refl, LL.owed PoisonListT.the-type PoisonListL.the-laws ((with-slots h (ws-list-command-in-place .0) (ws-list-command-in-place .1 .0) (ws-list-command-in-place .1 .1 .0)) .poison) _ (LL.owed DeviceT.the-type DeviceL.the-laws (with-slots h (ws-list-command-in-place .0) (ws-list-command-in-place .1 .0) (ws-list-command-in-place .1 .1 .0)) _ held .1 .1 .1 .1 .1 .0) .1 .1 .1 .1 .1 .0 .1), tt)))))))) (record { starts = ((with-slots h (ws-list-command-in-place .0) (ws-list-command-in-place .1 .0) (ws-list-command-in-place .1 .1 .0)) .poison) .starts; lengths = ((with-slots h (ws-list-command-in-place .0) (ws-list-command-in-place .1 .0) (ws-list-command-in-place .1 .1 .0)) .poison) .lengths; kinds = ((with-slots h (ws-list-command-in-place .0) (ws-list-command-in-place .1 .0) (ws-list-command-in-place .1 .1 .0)) .poison) .kinds; count = r-list-command-in-place .count; overflow = r-list-command-in-place .overflow; «overflow_time» = r-list-command-in-place .since }) (LL.owes PoisonListT.the-type PoisonListL.the-laws (record { starts = ((with-slots h (ws-list-command-in-place .0) (ws-list-command-in-place .1 .0) (ws-list-command-in-place .1 .1 .0)) .poison) .starts; lengths = ((with-slots h (ws-list-command-in-place .0) (ws-list-command-in-place .1 .0) (ws-list-command-in-place .1 .1 .0)) .poison) .lengths; kinds = ((with-slots h (ws-list-command-in-place .0) (ws-list-command-in-place .1 .0) (ws-list-command-in-place .1 .1 .0)) .poison) .kinds; count = r-list-command-in-place .count; overflow = r-list-command-in-place .overflow; «overflow_time» = r-list-command-in-place .since }) (LL.owed PoisonListT.the-type PoisonListL.the-laws ((with-slots h (ws-list-command-in-place .0) (ws-list-command-in-place .1 .0) (ws-list-command-in-place .1 .1 .0)) .poison) _ (LL.owed DeviceT.the-type DeviceL.the-laws (with-slots h (ws-list-command-in-place .0) (ws-list-command-in-place .1 .0) (ws-list-command-in-place .1 .1 .0)) _ held .1 .1 .1 .1 .1 .0) .0, (LL.owed PoisonListT.the-type PoisonListL.the-laws ((with-slots h (ws-list-command-in-place .0) (ws-list-command-in-place .1 .0) (ws-list-command-in-place .1 .1 .0)) .poison) _ (LL.owed DeviceT.the-type DeviceL.the-laws (with-slots h (ws-list-command-in-place .0) (ws-list-command-in-place .1 .0) (ws-list-command-in-place .1 .1 .0)) _ held .1 .1 .1 .1 .1 .0) .1 .0, (LL.owed PoisonListT.the-type PoisonListL.the-laws ((with-slots h (ws-list-command-in-place .0) (ws-list-command-in-place .1 .0) (ws-list-command-in-place .1 .1 .0)) .poison) _ (LL.owed DeviceT.the-type DeviceL.the-laws (with-slots h (ws-list-command-in-place .0) (ws-list-command-in-place .1 .0) (ws-list-command-in-place .1 .1 .0)) _ held .1 .1 .1 .1 .1 .0) .1 .1 .0, ((refl, LL.owed ListLeftT.the-type ListLeftL.the-laws r-list-command-in-place _ i-list-command-in-place .1 .1 .0 .1), (refl, ((refl, LL.owed ListLeftT.the-type ListLeftL.the-laws r-list-command-in-place _ i-list-command-in-place .1 .1 .1 .1 .0 .1), tt)))))))) $
+        move ! (1 ∷ 0 ∷ 6 ∷ 7 ∷ 8 ∷ []) $ closes ! tt DeviceT.the-row (record { volatile = (with-slots h (ws-list-command-in-place .0) (ws-list-command-in-place .1 .0) (ws-list-command-in-place .1 .1 .0)) .volatile; persistent = (with-slots h (ws-list-command-in-place .0) (ws-list-command-in-place .1 .0) (ws-list-command-in-place .1 .1 .0)) .persistent; clock = (with-slots h (ws-list-command-in-place .0) (ws-list-command-in-place .1 .0) (ws-list-command-in-place .1 .1 .0)) .clock; policy = (with-slots h (ws-list-command-in-place .0) (ws-list-command-in-place .1 .0) (ws-list-command-in-place .1 .1 .0)) .policy; logs = (with-slots h (ws-list-command-in-place .0) (ws-list-command-in-place .1 .0) (ws-list-command-in-place .1 .1 .0)) .logs; poison = record { starts = ((with-slots h (ws-list-command-in-place .0) (ws-list-command-in-place .1 .0) (ws-list-command-in-place .1 .1 .0)) .poison) .starts; lengths = ((with-slots h (ws-list-command-in-place .0) (ws-list-command-in-place .1 .0) (ws-list-command-in-place .1 .1 .0)) .poison) .lengths; kinds = ((with-slots h (ws-list-command-in-place .0) (ws-list-command-in-place .1 .0) (ws-list-command-in-place .1 .1 .0)) .poison) .kinds; count = r-list-command-in-place .count; overflow = r-list-command-in-place .overflow; «overflow_time» = r-list-command-in-place .since }; media = (with-slots h (ws-list-command-in-place .0) (ws-list-command-in-place .1 .0) (ws-list-command-in-place .1 .1 .0)) .media }) (mach (record { volatile = (with-slots h (ws-list-command-in-place .0) (ws-list-command-in-place .1 .0) (ws-list-command-in-place .1 .1 .0)) .volatile; persistent = (with-slots h (ws-list-command-in-place .0) (ws-list-command-in-place .1 .0) (ws-list-command-in-place .1 .1 .0)) .persistent; clock = (with-slots h (ws-list-command-in-place .0) (ws-list-command-in-place .1 .0) (ws-list-command-in-place .1 .1 .0)) .clock; policy = (with-slots h (ws-list-command-in-place .0) (ws-list-command-in-place .1 .0) (ws-list-command-in-place .1 .1 .0)) .policy; logs = (with-slots h (ws-list-command-in-place .0) (ws-list-command-in-place .1 .0) (ws-list-command-in-place .1 .1 .0)) .logs; poison = record { starts = ((with-slots h (ws-list-command-in-place .0) (ws-list-command-in-place .1 .0) (ws-list-command-in-place .1 .1 .0)) .poison) .starts; lengths = ((with-slots h (ws-list-command-in-place .0) (ws-list-command-in-place .1 .0) (ws-list-command-in-place .1 .1 .0)) .poison) .lengths; kinds = ((with-slots h (ws-list-command-in-place .0) (ws-list-command-in-place .1 .0) (ws-list-command-in-place .1 .1 .0)) .poison) .kinds; count = r-list-command-in-place .count; overflow = r-list-command-in-place .overflow; «overflow_time» = r-list-command-in-place .since }; media = (with-slots h (ws-list-command-in-place .0) (ws-list-command-in-place .1 .0) (ws-list-command-in-place .1 .1 .0)) .media }) ∷ []) b o $
+        returns ! (look ! 43 refl) $ forget ! 7 refl $ forget ! 9 refl $ forget ! 11 refl $ forget ! 13 refl $ forget ! 15 refl $ forget ! 17 refl $ forget ! 19 refl $ forget ! 21 refl $ forget ! 23 refl $ forget ! 25 refl $ forget ! 27 refl $ forget ! 29 refl $ forget ! 31 refl $ forget ! 33 refl $ forget ! 35 refl $ forget ! 37 refl $ forget ! 39 refl $ forget ! 41 refl $ forget ! 43 refl $
+        move ! (43 ∷ 44 ∷ 41 ∷ 42 ∷ 39 ∷ 40 ∷ 37 ∷ 38 ∷ 35 ∷ 36 ∷ 33 ∷ 34 ∷ 31 ∷ 32 ∷ 29 ∷ 30 ∷ 27 ∷ 28 ∷ 25 ∷ 26 ∷ 23 ∷ 24 ∷ 21 ∷ 22 ∷ 19 ∷ 20 ∷ 17 ∷ 18 ∷ 15 ∷ 16 ∷ 13 ∷ 14 ∷ 11 ∷ 12 ∷ 9 ∷ 10 ∷ 7 ∷ 8 ∷ []) $ free-all ! $
+        keep ! (0 ∷ 1 ∷ 2 ∷ 4 ∷ 3 ∷ 5 ∷ 6 ∷ []) $ by ! (exits (record { code = r-list-command-in-place .code; vector = 0; length = r-list-command-in-place .length }) (record { volatile = (with-slots h (ws-list-command-in-place .0) (ws-list-command-in-place .1 .0) (ws-list-command-in-place .1 .1 .0)) .volatile; persistent = (with-slots h (ws-list-command-in-place .0) (ws-list-command-in-place .1 .0) (ws-list-command-in-place .1 .1 .0)) .persistent; clock = (with-slots h (ws-list-command-in-place .0) (ws-list-command-in-place .1 .0) (ws-list-command-in-place .1 .1 .0)) .clock; policy = (with-slots h (ws-list-command-in-place .0) (ws-list-command-in-place .1 .0) (ws-list-command-in-place .1 .1 .0)) .policy; logs = (with-slots h (ws-list-command-in-place .0) (ws-list-command-in-place .1 .0) (ws-list-command-in-place .1 .1 .0)) .logs; poison = record { starts = ((with-slots h (ws-list-command-in-place .0) (ws-list-command-in-place .1 .0) (ws-list-command-in-place .1 .1 .0)) .poison) .starts; lengths = ((with-slots h (ws-list-command-in-place .0) (ws-list-command-in-place .1 .0) (ws-list-command-in-place .1 .1 .0)) .poison) .lengths; kinds = ((with-slots h (ws-list-command-in-place .0) (ws-list-command-in-place .1 .0) (ws-list-command-in-place .1 .1 .0)) .poison) .kinds; count = r-list-command-in-place .count; overflow = r-list-command-in-place .overflow; «overflow_time» = r-list-command-in-place .since }; media = (with-slots h (ws-list-command-in-place .0) (ws-list-command-in-place .1 .0) (ws-list-command-in-place .1 .1 .0)) .media }) (ws-list-command-in-place .1 .1 .1 .1 .1 .1 .1 .1 .1 .1 .1 .1 .1 .0) _ (so 𝓤 (list-command-in-place-gives h opcode payload time reply valid was r-list-command-in-place (ws-list-command-in-place .0) (ws-list-command-in-place .1 .0) (ws-list-command-in-place .1 .1 .0) (ws-list-command-in-place .1 .1 .1 .1 .1 .1 .1 .1 .1 .1 .1 .1 .1 .0) e-list-command-in-place)) long-reply (LL.owes DoneT.the-type DoneL.the-laws (record { code = r-list-command-in-place .code; vector = 0; length = r-list-command-in-place .length }) ((refl, LL.owed ListLeftT.the-type ListLeftL.the-laws r-list-command-in-place _ i-list-command-in-place .0 .1), ((refl, (omega arith)), ((refl, LL.owed ListLeftT.the-type ListLeftL.the-laws r-list-command-in-place _ i-list-command-in-place .1 .0 .1), tt)))))))))))))))))))))))))))))))))))))))
 
 module _ {M : Type 1} (𝓤 : URA M) (H : Heap 𝓤) (A : Atoms 𝓤) (W : Given 𝓤 H A) (at-mem : Memory → SProp 𝓤) (run : Routine → Fun 𝓤) where
   walks : (C : Calls 𝓤 H) (Λ : Loops 𝓤 H) → FmC 𝓤 H (W .laws) C → Triple 𝓤 (C #g-list-command-in-place) (C-list-command-in-place 𝓤 H A at-mem run) → Walks 𝓤 H A f.ended stayed (WpFn 𝓤 H C Λ code.function) (f.clauses 𝓤 H A at-mem run)

@@ -118,8 +118,8 @@ module _ {M : Type 1} (𝓤 : URA M) (H : Heap 𝓤) (A : Atoms 𝓤) (W : Given
   Post = walkOf 𝓤 H A f.ended stayed (f.clauses 𝓤 H A at-mem run) .post (((κ0, (κ1, (κ2, tt))), (q0, (q1, (q2, tt))), tt, x, at), tt)
 
   -- a device with another part is one
-  put-logs : (d : Device) → Is DeviceT.the-row d (mach d ∷ []) → (i : ℕ) (x : Log) → Is LogT.the-row x (LL.val LogT.the-type LogL.the-laws x ∷ []) → Is DeviceT.the-row (record { volatile = d .volatile; persistent = d .persistent; clock = d .clock; policy = d .policy; logs = set (d .logs) i x; poison = d .poison }) (mach (record { volatile = d .volatile; persistent = d .persistent; clock = d .clock; policy = d .policy; logs = set (d .logs) i x; poison = d .poison }) ∷ [])
-  put-logs d was i x is = let owed = LL.owed DeviceT.the-type DeviceL.the-laws d _ was in LL.owes DeviceT.the-type DeviceL.the-laws (record { volatile = d .volatile; persistent = d .persistent; clock = d .clock; policy = d .policy; logs = set (d .logs) i x; poison = d .poison }) (owed .0, (owed .1 .0, (owed .1 .1 .0, (owed .1 .1 .1 .0, (with-element LogT.the-type LogL.the-laws 5 (d .logs) _ (owed .1 .1 .1 .1 .0) i x is, (owed .1 .1 .1 .1 .1 .0, tt))))))
+  put-logs : (d : Device) → Is DeviceT.the-row d (mach d ∷ []) → (i : ℕ) (x : Log) → Is LogT.the-row x (LL.val LogT.the-type LogL.the-laws x ∷ []) → Is DeviceT.the-row (record { volatile = d .volatile; persistent = d .persistent; clock = d .clock; policy = d .policy; logs = set (d .logs) i x; poison = d .poison; media = d .media }) (mach (record { volatile = d .volatile; persistent = d .persistent; clock = d .clock; policy = d .policy; logs = set (d .logs) i x; poison = d .poison; media = d .media }) ∷ [])
+  put-logs d was i x is = let owed = LL.owed DeviceT.the-type DeviceL.the-laws d _ was in LL.owes DeviceT.the-type DeviceL.the-laws (record { volatile = d .volatile; persistent = d .persistent; clock = d .clock; policy = d .policy; logs = set (d .logs) i x; poison = d .poison; media = d .media }) (owed .0, (owed .1 .0, (owed .1 .1 .0, (owed .1 .1 .1 .0, (with-element LogT.the-type LogL.the-laws 5 (d .logs) _ (owed .1 .1 .1 .1 .0) i x is, (owed .1 .1 .1 .1 .1 .0, (owed .1 .1 .1 .1 .1 .1 .0, tt)))))))
 
   -- what each call binds, and that the caller has what it asks
   abbrev to-log-named : C-log-named 𝓤 H A at-mem run .Ghost
@@ -195,11 +195,11 @@ module _ {M : Type 1} (𝓤 : URA M) (H : Heap 𝓤) (A : Atoms 𝓤) (W : Given
         assigns ! (agg ! (and-then ! (load ! (from ! (fld ! refl (stop !))) (look-in ! 24 (sub ! 0 refl (whole !)))) (and-then ! (lit ! tt) (and-then ! (load ! (from ! (fld ! refl (stop !))) (look-in ! 24 (sub ! 1 refl (whole !)))) (no-more !))))) (from ! (stop !)) (init ! 38 refl (tt, (record { fits = LL.owed LogPartsT.the-type LogPartsL.the-laws r-log-command _ i-log-command .0 .1 }, (record { fits = (omega arith) }, (record { fits = LL.owed LogPartsT.the-type LogPartsL.the-laws r-log-command _ i-log-command .1 .0 .1 }, tt))))) $
         -- return
         -- the borrow is closed
-        move ! (4 ∷ []) $ use1 W (‵ (cellAt fullShare (DeviceT.the-row .mir) (mach (record { volatile = h .volatile; persistent = h .persistent; clock = h .clock; policy = h .policy; logs = set (h .logs) r-log-named (r-log-command .log); poison = h .poison }) ∷ []) b o)) (W .laws .at-raw fullShare DeviceL.mir b o (mach (record { volatile = h .volatile; persistent = h .persistent; clock = h .clock; policy = h .policy; logs = set (h .logs) r-log-named (r-log-command .log); poison = h .poison }))) $ owned ! DeviceT.the-row (Is DeviceT.the-row) ((LL.makes DeviceT.the-type DeviceL.the-plain) 𝓤 H A) (record { volatile = h .volatile; persistent = h .persistent; clock = h .clock; policy = h .policy; logs = set (h .logs) r-log-named (r-log-command .log); poison = h .poison }) (mach (record { volatile = h .volatile; persistent = h .persistent; clock = h .clock; policy = h .policy; logs = set (h .logs) r-log-named (r-log-command .log); poison = h .poison }) ∷ []) (put-logs h was r-log-named (r-log-command .log) (LL.owed LogPartsT.the-type LogPartsL.the-laws r-log-command _ i-log-command .1 .1 .0)) $
-        move ! (1 ∷ 0 ∷ 6 ∷ 7 ∷ 8 ∷ []) $ closes ! tt DeviceT.the-row (record { volatile = h .volatile; persistent = h .persistent; clock = h .clock; policy = h .policy; logs = set (h .logs) r-log-named (r-log-command .log); poison = h .poison }) (mach (record { volatile = h .volatile; persistent = h .persistent; clock = h .clock; policy = h .policy; logs = set (h .logs) r-log-named (r-log-command .log); poison = h .poison }) ∷ []) b o $
+        move ! (4 ∷ []) $ use1 W (‵ (cellAt fullShare (DeviceT.the-row .mir) (mach (record { volatile = h .volatile; persistent = h .persistent; clock = h .clock; policy = h .policy; logs = set (h .logs) r-log-named (r-log-command .log); poison = h .poison; media = h .media }) ∷ []) b o)) (W .laws .at-raw fullShare DeviceL.mir b o (mach (record { volatile = h .volatile; persistent = h .persistent; clock = h .clock; policy = h .policy; logs = set (h .logs) r-log-named (r-log-command .log); poison = h .poison; media = h .media }))) $ owned ! DeviceT.the-row (Is DeviceT.the-row) ((LL.makes DeviceT.the-type DeviceL.the-plain) 𝓤 H A) (record { volatile = h .volatile; persistent = h .persistent; clock = h .clock; policy = h .policy; logs = set (h .logs) r-log-named (r-log-command .log); poison = h .poison; media = h .media }) (mach (record { volatile = h .volatile; persistent = h .persistent; clock = h .clock; policy = h .policy; logs = set (h .logs) r-log-named (r-log-command .log); poison = h .poison; media = h .media }) ∷ []) (put-logs h was r-log-named (r-log-command .log) (LL.owed LogPartsT.the-type LogPartsL.the-laws r-log-command _ i-log-command .1 .1 .0)) $
+        move ! (1 ∷ 0 ∷ 6 ∷ 7 ∷ 8 ∷ []) $ closes ! tt DeviceT.the-row (record { volatile = h .volatile; persistent = h .persistent; clock = h .clock; policy = h .policy; logs = set (h .logs) r-log-named (r-log-command .log); poison = h .poison; media = h .media }) (mach (record { volatile = h .volatile; persistent = h .persistent; clock = h .clock; policy = h .policy; logs = set (h .logs) r-log-named (r-log-command .log); poison = h .poison; media = h .media }) ∷ []) b o $
         returns ! (look ! 37 refl) $ forget ! 7 refl $ forget ! 9 refl $ forget ! 11 refl $ forget ! 13 refl $ forget ! 15 refl $ forget ! 17 refl $ forget ! 19 refl $ forget ! 21 refl $ forget ! 23 refl $ forget ! 25 refl $ forget ! 27 refl $ forget ! 29 refl $ forget ! 31 refl $ forget ! 33 refl $ forget ! 35 refl $ forget ! 37 refl $
         move ! (37 ∷ 38 ∷ 35 ∷ 36 ∷ 33 ∷ 34 ∷ 31 ∷ 32 ∷ 29 ∷ 30 ∷ 27 ∷ 28 ∷ 25 ∷ 26 ∷ 23 ∷ 24 ∷ 21 ∷ 22 ∷ 19 ∷ 20 ∷ 17 ∷ 18 ∷ 15 ∷ 16 ∷ 13 ∷ 14 ∷ 11 ∷ 12 ∷ 9 ∷ 10 ∷ 7 ∷ 8 ∷ []) $ free-all ! $
-        keep ! (0 ∷ 1 ∷ 2 ∷ 4 ∷ 3 ∷ 5 ∷ 6 ∷ []) $ by ! (exits (record { code = r-log-command .code; vector = 0; length = r-log-command .length }) (record { volatile = h .volatile; persistent = h .persistent; clock = h .clock; policy = h .policy; logs = set (h .logs) r-log-named (r-log-command .log); poison = h .poison }) (ws-log-command .1 .1 .1 .0) _ (so 𝓤 (log-command-gives h opcode payload time reply valid was r-log-named e-log-named r-log-command (ws-log-command .1 .1 .1 .0) e-log-command)) long-reply (LL.owes DoneT.the-type DoneL.the-laws (record { code = r-log-command .code; vector = 0; length = r-log-command .length }) ((refl, LL.owed LogPartsT.the-type LogPartsL.the-laws r-log-command _ i-log-command .0 .1), ((refl, (omega arith)), ((refl, LL.owed LogPartsT.the-type LogPartsL.the-laws r-log-command _ i-log-command .1 .0 .1), tt))))))))))))))))))))))))))))))))))
+        keep ! (0 ∷ 1 ∷ 2 ∷ 4 ∷ 3 ∷ 5 ∷ 6 ∷ []) $ by ! (exits (record { code = r-log-command .code; vector = 0; length = r-log-command .length }) (record { volatile = h .volatile; persistent = h .persistent; clock = h .clock; policy = h .policy; logs = set (h .logs) r-log-named (r-log-command .log); poison = h .poison; media = h .media }) (ws-log-command .1 .1 .1 .0) _ (so 𝓤 (log-command-gives h opcode payload time reply valid was r-log-named e-log-named r-log-command (ws-log-command .1 .1 .1 .0) e-log-command)) long-reply (LL.owes DoneT.the-type DoneL.the-laws (record { code = r-log-command .code; vector = 0; length = r-log-command .length }) ((refl, LL.owed LogPartsT.the-type LogPartsL.the-laws r-log-command _ i-log-command .0 .1), ((refl, (omega arith)), ((refl, LL.owed LogPartsT.the-type LogPartsL.the-laws r-log-command _ i-log-command .1 .0 .1), tt))))))))))))))))))))))))))))))))))
 
 module _ {M : Type 1} (𝓤 : URA M) (H : Heap 𝓤) (A : Atoms 𝓤) (W : Given 𝓤 H A) (at-mem : Memory → SProp 𝓤) (run : Routine → Fun 𝓤) where
   walks : (C : Calls 𝓤 H) (Λ : Loops 𝓤 H) → FmC 𝓤 H (W .laws) C → Triple 𝓤 (C #g-log-named) (C-log-named 𝓤 H A at-mem run) → Triple 𝓤 (C #g-log-command) (C-log-command 𝓤 H A at-mem run) → Walks 𝓤 H A f.ended stayed (WpFn 𝓤 H C Λ code.function) (f.clauses 𝓤 H A at-mem run)

@@ -13,7 +13,7 @@ put-command-requires : tie.Need-put-command-requires
 put-command-requires c κs =
     let call = c .before .before .before .before .before .before .call-command in
     let s = c .before .before .before .before .before .before .before .before .before .before .before .before .before in
-    let short = reply-fits (call .ensures .0) (call .kept .1 .1 .1 .0) in
+    let short = reply-fits (call .ensures .0 .done) (call .kept .1 .1 .1 .0) in
     (s .pre .3, omega (arith, short, call .kept .1 .1 .1 .0), omega (arith, short, s .pre .2))
 
 same-length : tie.Need-same-length

@@ -10,11 +10,11 @@ line-requires c κs = search needs
 cast-code : tie.Need-cast-code
 cast-code c = search needs
 
-answer-number-requires : tie.Need-answer-number-requires
-answer-number-requires c κs = search needs
+status-number-requires : tie.Need-status-number-requires
+status-number-requires c κs = search needs
 
-answer-kind-requires : tie.Need-answer-kind-requires
-answer-kind-requires c κs = search needs
+status-type-requires : tie.Need-status-type-requires
+status-type-requires c κs = search needs
 
 slice-aggregate-put-told : tie.Need-slice-aggregate-put-told
 slice-aggregate-put-told c = search needs
@@ -27,8 +27,8 @@ same-length c = search needs
 
 returns : tie.Need-returns
 returns c =
-    line-served (c .before .before .before .before .before .before .before .before .before .before .before .args .bytes .now) (c .before .before .before .before .before .before .before .before .before .before .before .args .device) (c .before .before .before .before .before .before .before .before .line .ensures) (c .before .before .before .before .before .before .answer-number .ensures)
-    (c .before .before .before .before .before .answer-kind .ensures) (c .before .before .put-told .ensures)
+    line-served (c .before .before .before .before .before .before .before .before .before .before .before .args .bytes .now) (c .before .before .before .before .before .before .before .before .before .before .before .args .device) (c .before .before .before .before .before .before .before .before .line .ensures) (c .before .before .before .before .before .before .status-number .ensures)
+    (c .before .before .before .before .before .status-type .ensures) (c .before .before .put-told .ensures)
 
 pub line-spec : {M : Type 1} → statement M
 line-spec =
@@ -36,8 +36,8 @@ line-spec =
     (tie.spec
     line-requires
     cast-code
-    answer-number-requires
-    answer-kind-requires
+    status-number-requires
+    status-type-requires
     slice-aggregate-put-told
     put-told-requires
     same-length

@@ -264,7 +264,7 @@ loop-again-2 c =
       long (looked k),
       omega (arith, c .before .before .put-event .kept, l .inv .1),
       l .inv .2,
-      call .ensures .valid,
+      served .valid,
       turn .0,
       omega (arith, grows k),
       turn .1,

@@ -1,4 +1,4 @@
--- `mailbox::admission::admitted` meets its contract. Assumes nothing.
+-- `commands::admission::admitted` meets its contract. Assumes nothing.
 use Rattle.commands.specs.Commands.{commands}
 use Rattle.commands.proofs.AdmissionLaws.{admission-room, admission-long, admission-at, admission-unknown}
 use mathlib.Core.Path.{_∙_}
@@ -55,6 +55,9 @@ exactly-requires-10 c κs = search needs
 
 exactly-requires-11 : tie.Need-exactly-requires-11
 exactly-requires-11 c κs = search needs
+
+exactly-requires-12 : tie.Need-exactly-requires-12
+exactly-requires-12 c κs = search needs
 
 returns-3 : tie.Need-returns-3
 unfolding commands
@@ -114,7 +117,11 @@ returns-16 c = c .exactly11 .ensures ∙ admission-at _ _ _ 0x4302 (search needs
 
 returns-17 : tie.Need-returns-17
 unfolding commands
-returns-17 c = admission-unknown _ _ _ (search needs) (search needs) (simp (ne-eqb _ _ (c .match .rest .0 .0 .0 .0 .0 .0 .0 .0 .0 .0 .0 .0 .0 .1), ne-eqb _ _ (c .match .rest .0 .0 .0 .0 .0 .0 .0 .0 .0 .0 .0 .0 .1), ne-eqb _ _ (c .match .rest .0 .0 .0 .0 .0 .0 .0 .0 .0 .0 .0 .1), ne-eqb _ _ (c .match .rest .0 .0 .0 .0 .0 .0 .0 .0 .0 .0 .1), ne-eqb _ _ (c .match .rest .0 .0 .0 .0 .0 .0 .0 .0 .0 .1), ne-eqb _ _ (c .match .rest .0 .0 .0 .0 .0 .0 .0 .0 .1), ne-eqb _ _ (c .match .rest .0 .0 .0 .0 .0 .0 .0 .1), ne-eqb _ _ (c .match .rest .0 .0 .0 .0 .0 .0 .1), ne-eqb _ _ (c .match .rest .0 .0 .0 .0 .0 .1), ne-eqb _ _ (c .match .rest .0 .0 .0 .0 .1), ne-eqb _ _ (c .match .rest .0 .0 .0 .1), ne-eqb _ _ (c .match .rest .0 .0 .1), ne-eqb _ _ (c .match .rest .0 .1), ne-eqb _ _ (c .match .rest .1)))
+returns-17 c = c .exactly12 .ensures ∙ admission-at _ _ _ 0x4400 (search needs) (search needs) (search needs)
+
+returns-18 : tie.Need-returns-18
+unfolding commands
+returns-18 c = admission-unknown _ _ _ (search needs) (search needs) (simp (ne-eqb _ _ (c .match .rest .0 .0 .0 .0 .0 .0 .0 .0 .0 .0 .0 .0 .0 .0 .1), ne-eqb _ _ (c .match .rest .0 .0 .0 .0 .0 .0 .0 .0 .0 .0 .0 .0 .0 .1), ne-eqb _ _ (c .match .rest .0 .0 .0 .0 .0 .0 .0 .0 .0 .0 .0 .0 .1), ne-eqb _ _ (c .match .rest .0 .0 .0 .0 .0 .0 .0 .0 .0 .0 .0 .1), ne-eqb _ _ (c .match .rest .0 .0 .0 .0 .0 .0 .0 .0 .0 .0 .1), ne-eqb _ _ (c .match .rest .0 .0 .0 .0 .0 .0 .0 .0 .0 .1), ne-eqb _ _ (c .match .rest .0 .0 .0 .0 .0 .0 .0 .0 .1), ne-eqb _ _ (c .match .rest .0 .0 .0 .0 .0 .0 .0 .1), ne-eqb _ _ (c .match .rest .0 .0 .0 .0 .0 .0 .1), ne-eqb _ _ (c .match .rest .0 .0 .0 .0 .0 .1), ne-eqb _ _ (c .match .rest .0 .0 .0 .0 .1), ne-eqb _ _ (c .match .rest .0 .0 .0 .1), ne-eqb _ _ (c .match .rest .0 .0 .1), ne-eqb _ _ (c .match .rest .0 .1), ne-eqb _ _ (c .match .rest .1)))
 
 pub admitted-spec : {M : Type 1} → statement M
 admitted-spec =
@@ -136,6 +143,7 @@ admitted-spec =
     exactly-requires-9
     exactly-requires-10
     exactly-requires-11
+    exactly-requires-12
     returns-3
     returns-4
     returns-5
@@ -150,4 +158,5 @@ admitted-spec =
     returns-14
     returns-15
     returns-16
-    returns-17)
+    returns-17
+    returns-18)

@@ -1,4 +1,4 @@
--- `mailbox::admission::at_least` meets its contract. Assumes nothing.
+-- `commands::admission::at_least` meets its contract. Assumes nothing.
 use Rattle.wire.proofs.Laws.{need-holds, need-fails}
 use Prim.Native.Nat.{_-_}
 use borrow.Author.Tests.{le-leb, lt-leb}

@@ -1,4 +1,4 @@
--- `mailbox::admission::check_area` meets its contract. Assumes nothing.
+-- `commands::admission::check_area` meets its contract. Assumes nothing.
 use Rattle.wire.proofs.Laws.{need-holds, need-fails}
 use borrow.Author.Tests.{eq-eqb, ne-eqb}
 use Rattle.commands.proofs.admission.check_area.Statement.{statement}

@@ -1,4 +1,4 @@
--- `mailbox::admission::exactly` meets its contract. Assumes nothing.
+-- `commands::admission::exactly` meets its contract. Assumes nothing.
 use Rattle.wire.proofs.Laws.{need-holds, need-fails}
 use Prim.Native.Nat.{_-_}
 use borrow.Author.Tests.{eq-eqb, ne-eqb}

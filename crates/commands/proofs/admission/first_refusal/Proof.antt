@@ -1,4 +1,4 @@
--- `mailbox::admission::first_refusal` meets its contract. Assumes nothing.
+-- `commands::admission::first_refusal` meets its contract. Assumes nothing.
 use Rattle.wire.proofs.Laws.{need-holds, need-fails}
 use borrow.Author.Tests.{eq-eqb, ne-eqb}
 use Prim.Native.Nat.{_-_}

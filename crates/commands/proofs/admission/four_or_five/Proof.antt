@@ -1,4 +1,4 @@
--- `mailbox::admission::four_or_five` meets its contract. Assumes nothing.
+-- `commands::admission::four_or_five` meets its contract. Assumes nothing.
 use mathlib.Core.Path.{sym}
 use Prim.Native.Nat.{_-_}
 use borrow.Author.Tests.{eq-eqb, ne-eqb}

@@ -1,4 +1,4 @@
--- `mailbox::clock::set_timestamp` meets its contract. Assumes nothing.
+-- `commands::clock::set_timestamp` meets its contract. Assumes nothing.
 use Rattle.commands.specs.Clock.{set-timestamp}
 use Prim.Native.Nat.{_-_}
 use borrow.Author.Needs.{needs}

@@ -1,4 +1,4 @@
--- `mailbox::effects_log::get_log` meets its contract. Assumes nothing.
+-- `commands::effects_log::get_log` meets its contract. Assumes nothing.
 use denote.Ref.{now}
 use Rattle.wire.specs.Wire.{same, part, field, splice}
 use Rattle.commands.specs.EffectsLog.{effects-log, effects-log-id}

@@ -1,4 +1,4 @@
--- `mailbox::effects_log::get_supported_logs` meets its contract. Assumes nothing.
+-- `commands::effects_log::get_supported_logs` meets its contract. Assumes nothing.
 use Rattle.commands.specs.EffectsLog.{get-supported-logs}
 use Rattle.commands.proofs.Replies.{bytes-written}
 use Rattle.commands.proofs.EffectsLaws.{supported-written, supported-length}

@@ -1,4 +1,4 @@
--- `mailbox::identity::identify` meets its contract. Assumes nothing.
+-- `commands::identity::identify` meets its contract. Assumes nothing.
 use Rattle.commands.specs.Identity.{identify}
 use Rattle.commands.proofs.Replies.{bytes-written}
 use Rattle.commands.proofs.IdentityLaws.{identity-written, identity-length}

@@ -1,4 +1,4 @@
--- `mailbox::poison_commands::check_aligned` meets its contract. Assumes nothing.
+-- `commands::poison_commands::check_aligned` meets its contract. Assumes nothing.
 use Rattle.wire.proofs.Laws.{need-holds, need-fails}
 use borrow.Author.Tests.{eq-eqb, ne-eqb}
 use Prim.Native.Nat.{_-_}

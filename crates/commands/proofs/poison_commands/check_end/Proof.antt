@@ -1,4 +1,4 @@
--- `mailbox::poison_commands::check_end` meets its contract. Assumes nothing.
+-- `commands::poison_commands::check_end` meets its contract. Assumes nothing.
 use Rattle.commands.proofs.Addresses.{end-past, end-inside}
 use Prim.Native.Nat.{_-_}
 use borrow.Author.Needs.{needs}

@@ -1,4 +1,4 @@
--- `mailbox::poison_commands::check_line` meets its contract. Assumes nothing.
+-- `commands::poison_commands::check_line` meets its contract. Assumes nothing.
 use Rattle.commands.proofs.Addresses.{line-range}
 use mathlib.Core.Path.{_∙_}
 use Prim.Native.Nat.{_-_}

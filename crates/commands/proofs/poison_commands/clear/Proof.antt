@@ -1,4 +1,4 @@
--- `mailbox::poison_commands::clear` meets its contract: refused by the checks of the line, or what the list's clearing makes of it. Assumes nothing.
+-- `commands::poison_commands::clear` meets its contract: refused by the checks of the line, or what the list's clearing makes of it. Assumes nothing.
 use mathlib.Core.Path.{_≡_, sym, _∙_}
 use Prim.Native.Nat.{_<_, _-_, _/_}
 use native.Mathlib.Omega.{arith}

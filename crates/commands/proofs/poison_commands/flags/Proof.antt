@@ -1,4 +1,4 @@
--- `mailbox::poison_commands::flags` meets its contract. Assumes nothing.
+-- `commands::poison_commands::flags` meets its contract. Assumes nothing.
 use lib.Bits.{or-shifted-r}
 use Prim.Native.Nat.{_%_}
 use Rattle.commands.proofs.Headers.{flags-of}

@@ -1,4 +1,4 @@
--- `mailbox::poison_commands::get` meets its contract: refused by the checks of the range, or the records written and then the header before them. Assumes nothing.
+-- `commands::poison_commands::get` meets its contract: refused by the checks of the range, or the records written and then the header before them. Assumes nothing.
 use mathlib.Core.Path.{_≡_, sym, _∙_}
 use Prim.Native.Nat.{_≤_, _+_, _-_, _/_}
 use native.Mathlib.Omega.{arith}

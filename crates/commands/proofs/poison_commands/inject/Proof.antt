@@ -1,4 +1,4 @@
--- `mailbox::poison_commands::inject` meets its contract: refused by the checks of the line, or what the list's injection makes of it. Assumes nothing.
+-- `commands::poison_commands::inject` meets its contract: refused by the checks of the line, or what the list's injection makes of it. Assumes nothing.
 use mathlib.Core.Path.{_≡_, sym, _∙_}
 use mathlib.Core.Bool.{Bool}
 use Prim.Native.Nat.{ℕ, _<_, _-_, _/_}

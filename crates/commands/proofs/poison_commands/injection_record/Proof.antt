@@ -1,4 +1,4 @@
--- `mailbox::poison_commands::injection_record` meets its contract. Assumes nothing.
+-- `commands::poison_commands::injection_record` meets its contract. Assumes nothing.
 use borrow.Author.Needs.{needs}
 use Rattle.commands.specs.PoisonCommands.{injection-record}
 use Rattle.commands.proofs.poison_commands.injection_record.Statement.{statement}

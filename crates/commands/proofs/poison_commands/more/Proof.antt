@@ -1,4 +1,4 @@
--- `mailbox::poison_commands::more` meets its contract. Assumes nothing.
+-- `commands::poison_commands::more` meets its contract. Assumes nothing.
 use borrow.Author.Tests.{lt-ltb, le-ltb}
 use mathlib.Core.Path.{sym}
 use Prim.Native.Nat.{_-_}

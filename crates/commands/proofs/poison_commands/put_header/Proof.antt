@@ -1,4 +1,4 @@
--- `mailbox::poison_commands::put_header` meets its contract. Assumes nothing.
+-- `commands::poison_commands::put_header` meets its contract. Assumes nothing.
 use Rattle.commands.proofs.Headers.{header-written}
 use mathlib.Core.Path.{_∙_}
 use Prim.Native.Nat.{_-_}

@@ -30,7 +30,7 @@ returns c =
     let built = c .before .before .before .before .before .before .before .before in
     let s = built .before .before .before in
     asked (s .args .device) (s .args .address) (s .args .lines) (request-built (s .args .address) (s .args .lines) refl (built .get-poison-list .ensures)) refl
-    (c .before .before .before .command .ensures .0)
+    (c .before .before .before .command .ensures .0 .done)
 
 pub ask-spec : {M : Type 1} → statement M
 ask-spec =

@@ -19,7 +19,7 @@ fits : (c : tie.After-call-command) → (c .call-command .result .length ≤ len
 fits c =
     let s = c .before .before .before .before .before .before .before in
     let told = c .call-command in
-    let inside = reply-fits (told .ensures .0) (filled-long (s .args .bytes .now) (told .last .1 .1 .1 .0) (omega (arith, told .kept .1 .1 .1 .0, s .pre .2))) in
+    let inside = reply-fits (told .ensures .0 .done) (filled-long (s .args .bytes .now) (told .last .1 .1 .1 .0) (omega (arith, told .kept .1 .1 .1 .0, s .pre .2))) in
     (inside, omega (arith, inside, told .kept .1 .1 .1 .0, s .pre .2, s .pre .3))
 
 vector-number-requires : tie.Need-vector-number-requires
@@ -65,7 +65,7 @@ returns c =
     let area = s .args .area .now in (
       command-served (s .args .bytes .now) area _ (told .ensures .0) (c .before .before .before .before .before .before .before .before .before .before .before .before .before .before .before .vector-number .ensures)
           (command-put (told .result .code) (told .result .length) (getD (s .args .bytes .now) 14 0) _ (told .last .1 .1 .1 .0) (c .before .before .before .before .before .before .before .before .before .before .before .put-buffer .ensures) (c .before .before .before .before .before .before .before .put-number .ensures) (c .before .before .before .end-line .ensures) (ended (c .before .before .before .before .before .before .before))),
-      told .ensures .1 ∙ ap (area-left area (s .args .bytes .now)) (told .ensures .0 .code),
+      told .ensures .1 ∙ ap (area-left area (s .args .bytes .now)) (told .ensures .0 .done .code),
     )
 
 pub command-spec : {M : Type 1} → statement M

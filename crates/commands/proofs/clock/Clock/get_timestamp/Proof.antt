@@ -1,4 +1,4 @@
--- `mailbox::clock::Clock::get_timestamp` meets its contract. Assumes nothing.
+-- `commands::clock::Clock::get_timestamp` meets its contract. Assumes nothing.
 use Rattle.commands.specs.Clock.{get-timestamp}
 use Rattle.commands.proofs.Replies.{bytes-written}
 use Rattle.wire.proofs.Laws.{length-le}

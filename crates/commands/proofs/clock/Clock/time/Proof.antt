@@ -1,4 +1,4 @@
--- `mailbox::clock::Clock::time` meets its contract. Assumes nothing.
+-- `commands::clock::Clock::time` meets its contract. Assumes nothing.
 use Prim.Native.Nat.{_-_}
 use native.Mathlib.Omega.{arith}
 use borrow.Author.Tests.{not-true, not-false}

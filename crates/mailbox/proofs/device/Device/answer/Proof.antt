@@ -1,5 +1,5 @@
--- `mailbox::device::Device::command` meets its contract: the command over the part that it sees. Assumes nothing.
-use mathlib.Core.Path.{_≡_, sym, _∙_}
+-- `mailbox::device::Device::answer` meets its contract: the command over the part that it sees. Assumes nothing.
+use mathlib.Core.Path.{_≡_, refl, sym, _∙_}
 use mathlib.Core.Bool.{true, false}
 use Prim.Native.Nat.{ℕ, _<_, _-_}
 use native.Mathlib.Omega.{arith}
@@ -10,12 +10,12 @@ use Rattle.mailbox.specs.Mailbox.{area-after}
 use Rattle.mailbox.specs.ByParts.{of-area, of-list, of-injection}
 use Rattle.mailbox.proofs.AreaAnswers.{not-area, not-area-sized, other-leaves}
 use Rattle.mailbox.proofs.PartAnswers.{command-vector, list-parts-answered, inject-parts-answered, log-parts-answered, settings-parts-answered}
-use Rattle.mailbox.proofs.device.Device.command.Statement.{statement}
-use Rattle.mailbox.proofs.device.Device.command.Tie as tie
+use Rattle.mailbox.proofs.device.Device.answer.Statement.{statement}
+use Rattle.mailbox.proofs.device.Device.answer.Tie as tie
 
 -- where the function began, from the first test and from what is past it
 abbrev begun : tie.After-of-area → tie.Start
-begun c = c .before .before .before .before .before
+begun c = c .before .before .before .before .before .before
 
 abbrev start : tie.Else1 → tie.Start
 start c = begun (c .before)
@@ -120,7 +120,7 @@ same-length-2 c = search needs
 returns : tie.Need-returns
 returns c =
     let a = c .before .before .before .before .area-command .ensures in
-    (a .answered _ _ (begun (c .before .before .before .before .before .before .before .before) .pre), a .area)
+    (a .answered _ _ (begun (c .before .before .before .before .before .before .before .before) .pre) refl, a .area)
 
 same-length-3 : tie.Need-same-length-3
 same-length-3 c = search needs
@@ -156,11 +156,11 @@ same-length-6 c = search needs
 
 returns-5 : tie.Need-returns-5
 returns-5 c =
-    let e = c .before .before .before .before .before .before .before .before .before .before .before .before .before in
-    (settings-parts-answered _ (start e .pre) _ (sized e) (c .before .before .before .before .settings-command .ensures), kept e _)
+    let e = c .before .before .before .before .before .before .before .before .before .before .before .before .before .before in
+    (settings-parts-answered _ (start e .pre) _ (sized e) (c .before .before .before .before .before .settings-command .ensures), kept e _)
 
-pub command-spec : {M : Type 1} → statement M
-command-spec =
+pub answer-spec : {M : Type 1} → statement M
+answer-spec =
     tie.close
     (tie.spec
     of-area-requires

@@ -1,12 +1,12 @@
--- `mailbox::device::Device::event_report` meets its contract: the report over its parts. Assumes nothing.
+-- `mailbox::device::Device::event_answer` meets its contract: the report over its parts. Assumes nothing.
 use mathlib.Core.Path.{_≡_}
 use Prim.Native.Nat.{_-_}
 use native.Mathlib.Omega.{arith}
 use borrow.Author.Needs.{needs}
 use lib.ListN.{length, length-map}
 use Rattle.mailbox.proofs.PartAnswers.{event-vector, event-parts-done}
-use Rattle.mailbox.proofs.device.Device.event_report.Statement.{statement}
-use Rattle.mailbox.proofs.device.Device.event_report.Tie as tie
+use Rattle.mailbox.proofs.device.Device.event_answer.Statement.{statement}
+use Rattle.mailbox.proofs.device.Device.event_answer.Tie as tie
 
 log-at-requires : tie.Need-log-at-requires
 log-at-requires c κs = search needs
@@ -36,8 +36,8 @@ returns c =
     event-vector (c .numbered .ensures)
     (event-parts-done _ (s .pre) five _ (c .before .before .before .before .log-at .ensures .0) (c .before .before .event-report-in .ensures))
 
-pub event-report-spec : {M : Type 1} → statement M
-event-report-spec =
+pub event-answer-spec : {M : Type 1} → statement M
+event-answer-spec =
     tie.close
     (tie.spec
     log-at-requires

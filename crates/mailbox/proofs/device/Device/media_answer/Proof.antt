@@ -1,8 +1,8 @@
--- `mailbox::device::Device::media_report` meets its contract: the report over its parts. Assumes nothing.
+-- `mailbox::device::Device::media_answer` meets its contract: the report over its parts. Assumes nothing.
 use Prim.Native.Nat.{_-_}
 use Rattle.mailbox.proofs.PartAnswers.{media-parts-done}
-use Rattle.mailbox.proofs.device.Device.media_report.Statement.{statement}
-use Rattle.mailbox.proofs.device.Device.media_report.Tie as tie
+use Rattle.mailbox.proofs.device.Device.media_answer.Statement.{statement}
+use Rattle.mailbox.proofs.device.Device.media_answer.Tie as tie
 
 media-report-in-requires : tie.Need-media-report-in-requires
 media-report-in-requires c κs = let v = c .before .before .pre in (v .some-unit, v .few-units, v .poison)
@@ -10,8 +10,8 @@ media-report-in-requires c κs = let v = c .before .before .pre in (v .some-unit
 returns : tie.Need-returns
 returns c = media-parts-done _ (c .before .before .before .before .pre) (c .before .media-report-in .ensures)
 
-pub media-report-spec : {M : Type 1} → statement M
-media-report-spec =
+pub media-answer-spec : {M : Type 1} → statement M
+media-answer-spec =
     tie.close
     (tie.spec
     media-report-in-requires

@@ -1,0 +1,90 @@
+-- Sanitize in words (document 02, W-207), of the definitions: its start; while media is disabled no line is answered Clean and the commands on memory are refused; the end comes once, empties the logs and lets the next
+-- handles go on. Assumes nothing.
+use mathlib.Core.Path.{_≡_, refl, sym, ap, _∙_}
+use mathlib.Core.Bool.{Bool, true, false, cond, _&&_, true≢false, false≢true}
+use mathlib.Core.List.{List, [], _∷_, map}
+use Prim.Native.Nat.{ℕ, zero, suc, _+_, _≤_, _<_}
+use native.Mathlib.Omega.{arith}
+use lib.Dec.{eqb, leb}
+use lib.ListN.{length}
+use borrow.Author.Tests.{le-leb, lt-leb, ne-eqb}
+use Rattle.wire.specs.Returns.{success, started, busy, media-disabled, need}
+use Rattle.wire.proofs.Laws.{either}
+use Rattle.events.specs.Log.{LogState, log-at}
+use Rattle.events.specs.Emptied.{emptied}
+use Rattle.events.proofs.Laws.{emptied-none}
+use Rattle.labels.specs.Labels.{label-size}
+use Rattle.commands.specs.Commands.{admission, while-disabled, blocked, first-code}
+use Rattle.commands.specs.Media.{duration, sanitize, due}
+use Rattle.commands.specs.PoisonCommands.{line-of, line-code}
+use Rattle.commands.proofs.Laws.{first-admitted}
+use Rattle.mailbox.specs.State.{DeviceState, lines-of, with-media}
+use Rattle.mailbox.specs.Ending.{logs-left, media-left, ended}
+use Rattle.mailbox.specs.Outcome.{Outcome, changes, refused}
+use Rattle.mailbox.specs.Mailbox.{run-command, answer, outcome}
+use Rattle.mailbox.specs.DeviceCalls.{LineOutcome, told, line-test}
+use Rattle.mailbox.specs.LineStatus.{status-of}
+use Rattle.mailbox.specs.declared.line_status.LineStatus.the-variants.{Unknown, Disabled}
+use Rattle.poison.specs.LineTest.{line-test as list-test}
+use Rattle.mailbox.proofs.Accepted.{admitted-runs}
+use Rattle.mailbox.proofs.Endings.{ended-none, ended-due}
+
+-- what media disabled refuses is the answer, where the checks before let it through
+stopped : (d : DeviceState) (op : ℕ) (p : List ℕ) (time : ℕ) (area : List ℕ) (room code : ℕ) → d .media .disabled ≡ true → while-disabled op ≡ code → (code ≡ 0 → ⊥)
+    → admission op (length p) (length area) room ≡ 0 → answer d op p time area room ≡ refused code d
+unfolding answer
+stopped d op p time area room code off stops some z =
+    let e : code ≡ first-code (d .media .disabled) op (length p) (length area) room
+    = sym (ap (λ (b : Bool). blocked b op) off ∙ stops) ∙ first-admitted (d .media .disabled) op (length p) (length area) room z in
+    ap (λ (n : ℕ). need (eqb n success) (refused n d) (run-command d op p time area)) (sym e) ∙ ap (λ (b : Bool). need b (refused code d) (run-command d op p time area)) (ne-eqb code 0 some)
+
+-- ---- the start: a Sanitize that the checks before its own let through, on the device that it finds
+module _ (d : DeviceState) (p : List ℕ) (time : ℕ) (area : List ℕ) (room : ℕ) (z : admission 0x4400 (length p) (length area) room ≡ 0) where
+  -- where none runs: 0001h, no reply, no vector, and media disabled from the caller's time on, for as long as the table says; nothing else changes
+  pub sanitize-starts : d .media .disabled ≡ false → answer d 0x4400 p time area room ≡ changes started (with-media d (sanitize (d .volatile + d .persistent) time))
+  unfolding run-command
+  sanitize-starts on =
+      admitted-runs d 0x4400 p time area room (sym (first-admitted (d .media .disabled) 0x4400 (length p) (length area) room z) ∙ ap (λ (b : Bool). blocked b 0x4400) on)
+
+  -- while one runs: 0006h
+  pub sanitize-busy : d .media .disabled ≡ true → answer d 0x4400 p time area room ≡ refused busy d
+  unfolding while-disabled
+  sanitize-busy off = stopped d 0x4400 p time area room busy off refl (λ e. omega (arith, e)) z
+
+-- ---- while media is disabled: Inject Poison, Clear Poison, Get LSA and Set LSA are 0007h directly after the length check, whatever their address, range or reserved bytes
+pub disabled-refused : (d : DeviceState) (op : ℕ) (p : List ℕ) (time : ℕ) (area : List ℕ) (room : ℕ) → d .media .disabled ≡ true → while-disabled op ≡ media-disabled
+    → admission op (length p) (length area) room ≡ 0 → answer d op p time area room ≡ refused media-disabled d
+disabled-refused d op p time area room off stops z = stopped d op p time area room media-disabled off stops (λ e. omega (arith, e)) z
+
+-- no line is answered Clean, whatever the list
+pub disabled-not-clean : (d : DeviceState) (address : ℕ) → d .media .disabled ≡ true → line-test d address .number ≡ 0 → ⊥
+unfolding line-test
+disabled-not-clean d address off = by (d .media .disabled) off (eqb (line-code (lines-of d) address) 0)
+  where
+    by : (c : Bool) → c ≡ true → (b : Bool)
+        → need b (told (line-code (lines-of d) address) Unknown) (cond c (told success Disabled) (told success (status-of (list-test (d .poison) (line-of address))))) .number ≡ 0 → ⊥
+    by true e true h = omega (arith, h)
+    by true e false h = omega (arith, h)
+    by false e b h = absurd (false≢true e)
+
+-- ---- the end comes once: where it came nothing is due at any time, and nothing is due at the time of a call on the device that it finds
+pub ended-once : (d : DeviceState) (time : ℕ) → due (d .media) time ≡ true → (later : ℕ) → due (ended d time .media) later ≡ false
+unfolding due
+ended-once d time e later = ap (λ (x : DeviceState). due (x .media) later) (ended-due d time e)
+
+pub found-not-due : (d : DeviceState) (time : ℕ) → due (ended d time .media) time ≡ false
+unfolding due
+found-not-due d time = by (due (d .media) time) refl
+  where
+    by : (b : Bool) → due (d .media) time ≡ b → due (ended d time .media) time ≡ false
+    by true e = ended-once d time e time
+    by false e = ap (λ (x : DeviceState). due (x .media) time) (ended-none d time e) ∙ e
+
+-- it is due from the beginning plus the duration on, and not before; a time before the beginning is not past it
+pub due-from : (units begun time : ℕ) → begun + duration units ≤ time → due (sanitize units begun) time ≡ true
+unfolding due sanitize
+due-from units begun time h = le-leb _ _ h
+
+pub not-due-before : (units begun time : ℕ) → time < begun + duration units → due (sanitize units begun) time ≡ false
+unfolding due sanitize
+not-due-before units begun time h = lt-leb _ _ h
