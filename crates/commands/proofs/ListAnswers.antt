@@ -14,7 +14,6 @@ use Rattle.poison.specs.Clear.{after-clear, Clears}
 use Rattle.poison.specs.Range.{sharing, records-bytes, Wrote}
 use Rattle.poison.specs.declared.list.PoisonList.{PoisonList}
 use Rattle.poison.proofs.Laws.{valid-more, slots-more, length-records, adds-taken}
-use Rattle.wire.specs.declared.done.Done.{Done}
 use Rattle.wire.specs.Returns.{success, inject-limit, need, Refused}
 use Rattle.commands.specs.Numbers.{unit-lines, most-units, mailbox-size, poison-records}
 use Rattle.commands.specs.Reply.{replied, no-reply}

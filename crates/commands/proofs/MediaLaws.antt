@@ -1,15 +1,14 @@
 -- Laws of media and of Sanitize (document 02, W-207): the rows of the table of seconds one after the other, the ten rows and their edges computed, when a work is due to end, and which commands are refused meanwhile.
 -- Assumes nothing.
-use mathlib.Core.Path.{_≡_, refl, sym, ap, _∙_}
-use mathlib.Core.Bool.{Bool, true, false, cond, _&&_, _||_}
+use mathlib.Core.Path.{_≡_, refl, sym, ap}
+use mathlib.Core.Bool.{Bool, true, false}
 use mathlib.Core.List.{List, [], _∷_}
 use Prim.Native.Nat.{ℕ, _+_, _-_, _*_, _≤_, _<_}
 use native.Mathlib.Omega.{arith}
-use native.Mathlib.Decide.{decLt}
-use lib.Dec.{leb, eqb}
+use lib.Dec.{leb}
 use borrow.Author.Tests.{le-leb, lt-leb, leb-true, leb-false}
 use Rattle.wire.specs.Returns.{busy, media-disabled}
-use Rattle.commands.specs.Media.{Row, rows, seconds-in, duration, enabled, sanitize, due}
+use Rattle.commands.specs.Media.{rows, seconds-in, duration, due}
 use Rattle.commands.specs.Commands.{while-disabled}
 use Rattle.commands.specs.declared.media.MediaState.{MediaState}
 

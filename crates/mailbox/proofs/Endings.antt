@@ -1,7 +1,7 @@
 -- The end of a Sanitize on a device of the code (document 02, W-207): what `Device::ended` ensures, by its cases, and what a call that carries a time ensures from what it ensures of the device that it
 -- finds. Assumes nothing.
 use mathlib.Core.Path.{_≡_, refl, sym, ap, ap₂, _∙_, subst}
-use mathlib.Core.Bool.{Bool, true, false, cond, true≢false}
+use mathlib.Core.Bool.{true, false, true≢false}
 use mathlib.Core.List.{List, map}
 use Prim.Native.Nat.{ℕ}
 use Rattle.events.specs.Emptied.{emptied, EmptiesAll}

@@ -1,28 +1,23 @@
 -- Sanitize in words (document 02, W-207), of the definitions: its start; while media is disabled no line is answered Clean and the commands on memory are refused; the end comes once, empties the logs and lets the next
 -- handles go on. Assumes nothing.
 use mathlib.Core.Path.{_≡_, refl, sym, ap, _∙_}
-use mathlib.Core.Bool.{Bool, true, false, cond, _&&_, true≢false, false≢true}
-use mathlib.Core.List.{List, [], _∷_, map}
-use Prim.Native.Nat.{ℕ, zero, suc, _+_, _≤_, _<_}
+use mathlib.Core.Bool.{Bool, true, false, cond, false≢true}
+use mathlib.Core.List.{List}
+use Prim.Native.Nat.{ℕ, _+_, _≤_, _<_}
 use native.Mathlib.Omega.{arith}
-use lib.Dec.{eqb, leb}
+use lib.Dec.{eqb}
 use lib.ListN.{length}
 use borrow.Author.Tests.{le-leb, lt-leb, ne-eqb}
 use Rattle.wire.specs.Returns.{success, started, busy, media-disabled, need}
-use Rattle.wire.proofs.Laws.{either}
-use Rattle.events.specs.Log.{LogState, log-at}
-use Rattle.events.specs.Emptied.{emptied}
-use Rattle.events.proofs.Laws.{emptied-none}
-use Rattle.labels.specs.Labels.{label-size}
 use Rattle.commands.specs.Commands.{admission, while-disabled, blocked, first-code}
 use Rattle.commands.specs.Media.{duration, sanitize, due}
 use Rattle.commands.specs.PoisonCommands.{line-of, line-code}
 use Rattle.commands.proofs.Laws.{first-admitted}
 use Rattle.mailbox.specs.State.{DeviceState, lines-of, with-media}
-use Rattle.mailbox.specs.Ending.{logs-left, media-left, ended}
-use Rattle.mailbox.specs.Outcome.{Outcome, changes, refused}
-use Rattle.mailbox.specs.Mailbox.{run-command, answer, outcome}
-use Rattle.mailbox.specs.DeviceCalls.{LineOutcome, told, line-test}
+use Rattle.mailbox.specs.Ending.{ended}
+use Rattle.mailbox.specs.Outcome.{changes, refused}
+use Rattle.mailbox.specs.Mailbox.{run-command, answer}
+use Rattle.mailbox.specs.DeviceCalls.{told, line-test}
 use Rattle.mailbox.specs.LineStatus.{status-of}
 use Rattle.mailbox.specs.declared.line_status.LineStatus.the-variants.{Unknown, Disabled}
 use Rattle.poison.specs.LineTest.{line-test as list-test}

@@ -2,13 +2,10 @@
 -- Assumes nothing.
 use Prim.Native.Nat.{ℕ}
 use mathlib.Core.Path.{_≡_}
-use mathlib.Core.Bool.{Bool}
 use mathlib.Core.List.{List}
 use lib.ListN.{length}
 use Rattle.wire.specs.Returns.{Refused}
 use Rattle.wire.specs.Wire.{splice}
-use Rattle.poison.specs.State as P
-use Rattle.poison.specs.declared.list.PoisonList.{PoisonList}
 use Rattle.events.specs.declared.status.Status.{Status}
 use Rattle.events.specs.Status.{StatusOutcome}
 use Rattle.mailbox.specs.declared.device.Device.{Device}

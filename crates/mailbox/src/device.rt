@@ -109,7 +109,8 @@ impl Device {
         self
     }
 
-    // The device's answer to a command, with the caller's time; the reply is written to the lent buffer, and the label area that the caller lends is written by Set LSA alone.
+    // The device's answer to a command, with the caller's time; the reply is written to the lent buffer, and the label area that the caller lends is written by Set LSA alone. Whether a Sanitize is due is asked
+    // first: the device goes through `ended` only then, which would cost a copy of it with every call.
     pub fn command(
         self,
         opcode: u16,
@@ -121,8 +122,12 @@ impl Device {
         requires { ⌜ ValidDevice self ⌝ }
         ensures { λ r. ⌜ AfterEnding self time (λ (e : Device). Answered (outcome (state-of self) opcode (now (payload .entry)) time (now (area .entry)) (length (now (reply .entry)))) e r (now (reply .entry)) (now (reply .exit))) × (now (area .exit) ≡ area-after opcode (now (payload .entry)) (r .code) (now (area .entry))) ⌝ }
     {
-        let found = self.ended(time);
-        found.answer(opcode, payload, time, area, reply)
+        let media = self.media;
+        if media.due(time) {
+            let found = self.ended(time);
+            return found.answer(opcode, payload, time, area, reply);
+        }
+        self.answer(opcode, payload, time, area, reply)
     }
 
     // The same where no Sanitize is left to end. The part that the command sees is taken out and put back, and the

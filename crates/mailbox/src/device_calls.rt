@@ -42,8 +42,12 @@ impl Device {
         requires { ⌜ ValidDevice self ⌝ }
         ensures { λ r. ⌜ AfterEnding self time (λ (e : Device). EventDone (event-report (state-of self) time log (now (event .entry))) e r) ⌝ }
     {
-        let found = self.ended(time);
-        found.event_answer(time, log, event)
+        let media = self.media;
+        if media.due(time) {
+            let found = self.ended(time);
+            return found.event_answer(time, log, event);
+        }
+        self.event_answer(time, log, event)
     }
 
     // The same where no Sanitize is left to end.
@@ -72,8 +76,12 @@ impl Device {
         requires { ⌜ ValidDevice self ⌝ }
         ensures { λ r. ⌜ AfterEnding self time (λ (e : Device). MediaDone (media-report (state-of self) time address lines kind) e r) ⌝ }
     {
-        let found = self.ended(time);
-        found.media_answer(time, address, lines, kind)
+        let media = self.media;
+        if media.due(time) {
+            let found = self.ended(time);
+            return found.media_answer(time, address, lines, kind);
+        }
+        self.media_answer(time, address, lines, kind)
     }
 
     // The same where no Sanitize is left to end.

@@ -1,10 +1,24 @@
--- `mailbox::device::Device::media_report` meets its contract: the answer of the device that the call finds. Assumes nothing.
-use Rattle.mailbox.proofs.Endings.{after-media}
+-- `mailbox::device::Device::media_report` meets its contract: the answer of the device that the call finds, which is the one given where no Sanitize is due. Assumes nothing.
+use mathlib.Core.Path.{_≡_, sym, _∙_}
+use mathlib.Core.Bool.{false}
+use borrow.Author.Needs.{needs}
+use Rattle.commands.specs.Media.{due}
+use Rattle.mailbox.proofs.Endings.{ends-none, after-media}
 use Rattle.mailbox.proofs.device.Device.media_report.Statement.{statement}
 use Rattle.mailbox.proofs.device.Device.media_report.Tie as tie
 
+-- where the function began, and that nothing is due, past the test
+abbrev start : tie.Else1 → tie.Start
+start e = e .before .before .before
+
+idle : (e : tie.Else1) → due (start e .args .self .media) (start e .args .time) ≡ false
+idle e = sym (e .before .due .ensures) ∙ e .if1 .left
+
+due-requires : tie.Need-due-requires
+due-requires c κs = search needs
+
 ended-requires : tie.Need-ended-requires
-ended-requires c κs = c .pre
+ended-requires c κs = c .before .before .before .pre
 
 media-answer-requires : tie.Need-media-answer-requires
 media-answer-requires c κs = c .ended .ensures .valid
@@ -12,5 +26,11 @@ media-answer-requires c κs = c .ended .ensures .valid
 returns : tie.Need-returns
 returns c = after-media (c .before .ended .ensures) _ _ _ (c .media-answer .ensures)
 
+media-answer-requires-2 : tie.Need-media-answer-requires-2
+media-answer-requires-2 c κs = start c .pre
+
+returns-2 : tie.Need-returns-2
+returns-2 c = after-media (ends-none _ _ (start (c .before) .pre) (idle (c .before))) _ _ _ (c .media-answer2 .ensures)
+
 pub media-report-spec : {M : Type 1} → statement M
-media-report-spec = tie.close (tie.spec ended-requires media-answer-requires returns)
+media-report-spec = tie.close (tie.spec due-requires ended-requires media-answer-requires returns media-answer-requires-2 returns-2)
