@@ -1,6 +1,6 @@
 /*
- * One guest's memory device in a hypervisor: the mailbox registers, the doorbell, the interrupts, the read path, the label area, and the
- * incident that Kulduvost is there for, replayed. Exits with 1 if anything is not as expected.
+ * One guest's memory device in a hypervisor: the mailbox registers, the doorbell, the interrupts, the read path, the label area, the
+ * Sanitize before it is handed on, and the incident that Kulduvost is there for, replayed. Exits with 1 if anything is not as expected.
  *
  *   cc -std=c11 -I OUT/include examples/host.c OUT/lib/libkulduvost.a -o host        (OUT: where tests/library wrote)
  */
@@ -30,11 +30,14 @@ struct guest {
 };
 
 #define DOORBELL 1u
+#define SECOND UINT64_C(1000000000)
+
+static uint64_t ahead; /* the example does not wait: it puts its clock forward */
 
 static uint64_t now(void) {
     struct timespec t;
     clock_gettime(CLOCK_MONOTONIC, &t);
-    return (uint64_t)t.tv_sec * 1000000000u + (uint64_t)t.tv_nsec;
+    return (uint64_t)t.tv_sec * SECOND + (uint64_t)t.tv_nsec + ahead;
 }
 
 static uint64_t load64(const uint8_t *from) {
@@ -71,7 +74,8 @@ static void guest_free(struct guest *guest) {
     free(guest);
 }
 
-/* The read path: one line. Only Success with Clean permits; false fails the guest's read, and no byte is handed out. */
+/* The read path: one line. Only Success with Clean permits, so that Disabled blocks too; false fails the guest's read, and no byte is
+ * handed out. */
 static bool guest_read(struct guest *guest, uint64_t address, uint8_t line[KULDUVOST_LINE_SIZE]) {
     kulduvost_line_answer told = kulduvost_line_test(&guest->device, address);
     if (told.code != KULDUVOST_SUCCESS || told.answer != KULDUVOST_CLEAN) {
@@ -101,6 +105,20 @@ static kulduvost_media_answer guest_damaged(struct guest *guest, uint64_t addres
     return kulduvost_media_report(&guest->device, now(), address, lines, type);
 }
 
+/* The caller's part of a Sanitize: the library has neither of the two. It must be done before a call ends the Sanitize and so opens the read
+ * path; a host that does it in the background makes no call at the due time or later until it is done. */
+static void guest_wipe(struct guest *guest) {
+    memset(guest->memory, 0, (size_t)KULDUVOST_UNIT_LINES * KULDUVOST_LINE_SIZE);
+    memset(guest->labels, 0, sizeof guest->labels);
+}
+
+/* The host's timer. A Sanitize ends at a call that carries a time, and a guest that only reads makes none: this is one, lent a buffer of its
+ * own. */
+static void guest_timer(struct guest *guest) {
+    uint8_t none[1] = {0}, reply[KULDUVOST_MAILBOX_SIZE];
+    kulduvost_command(&guest->device, KULDUVOST_GET_TIMESTAMP, none, 0, now(), guest->labels, sizeof guest->labels, reply, sizeof reply);
+}
+
 /* Runs the command in the registers. Request and reply share the payload area and buffers of a call may not overlap: the request is copied. */
 static kulduvost_command_answer mailbox_run(struct guest *guest) {
     struct mailbox *mailbox = &guest->mailbox;
@@ -117,6 +135,9 @@ static kulduvost_command_answer mailbox_run(struct guest *guest) {
         /* document 01: after a Clear Poison answered Success the caller writes payload bytes 8 to 71 to the line; Success says that the
          * address is aligned and inside the device */
         memcpy(guest->memory + load64(request), request + 8, KULDUVOST_LINE_SIZE);
+    }
+    if (done.code == KULDUVOST_STARTED) { /* of a Sanitize alone; no refusal */
+        guest_wipe(guest);
     }
     return done;
 }
@@ -235,6 +256,28 @@ static void label_written_and_read(struct guest *guest) {
     expect(guest_sends(guest, KULDUVOST_GET_LSA, get, sizeof get) == KULDUVOST_INVALID_INPUT, "a read past the label area's end is refused");
 }
 
+/* A tenant leaves: nothing of its is left in memory, labels and logs, and until then no read is served. Damage stays: line 13 is as bad for
+ * the next one. */
+static void guest_handed_on(struct guest *guest) {
+    static const uint8_t event[KULDUVOST_EVENT_RECORD_SIZE];
+    uint8_t line[KULDUVOST_LINE_SIZE], labels[KULDUVOST_LABEL_AREA_SIZE] = {0};
+    expect(guest_clears(guest, address_of(5), 0x77) == KULDUVOST_SUCCESS && guest_read(guest, address_of(5), line) && line[0] == 0x77,
+           "the tenant has data in line 5");
+    expect(guest_event(guest, KULDUVOST_LOG_INFO, event).stored, "and an event in log Info");
+    expect(guest_damaged(guest, address_of(13), 1, 1).stored == 1, "line 13 is reported damaged");
+    expect(guest_sends(guest, KULDUVOST_SANITIZE, line, 0) == KULDUVOST_STARTED, "a Sanitize is started, and the host wipes");
+    expect(memcmp(guest->labels, labels, sizeof labels) == 0, "the label area is wiped");
+    expect(!guest_read(guest, address_of(5), line) && kulduvost_line_test(&guest->device, address_of(5)).answer == KULDUVOST_DISABLED,
+           "the read of line 5 blocks: Disabled");
+    ahead += 4 * SECOND;
+    expect(!guest_read(guest, address_of(5), line), "four seconds later it still blocks: a line test ends nothing");
+    guest_timer(guest);
+    expect(guest_read(guest, address_of(5), line) && line[0] == 0, "the host's timer has ended it: line 5 is served, and wiped");
+    expect(kulduvost_event_status(&guest->device).waiting == 0, "no log holds an event");
+    expect(!guest_read(guest, address_of(13), line), "the read of line 13 blocks");
+    expect(guest_clears(guest, address_of(13), 0) == KULDUVOST_SUCCESS, "the next tenant clears line 13");
+}
+
 /* In spring a poison list was full; one more report of damage was dropped, and the line read as clean. */
 static void incident(struct guest *guest) {
     uint8_t line[KULDUVOST_LINE_SIZE];
@@ -260,6 +303,7 @@ int main(void) {
     one_line_damaged_and_cleared(guest);
     injection_and_its_interrupt(guest);
     label_written_and_read(guest);
+    guest_handed_on(guest);
     incident(guest);
     guest_free(guest);
     return all_as_expected ? 0 : 1;

@@ -30,8 +30,13 @@ static bool aligned(const void *at) { return (uintptr_t)at % KULDUVOST_DEVICE_AL
 static uint8_t area[KULDUVOST_LABEL_AREA_SIZE + 1], reply[KULDUVOST_MAILBOX_SIZE];
 
 /* A command that is lent what it needs. */
+static kulduvost_command_answer command_at(kulduvost_device *device, uint64_t time, uint16_t opcode, const uint8_t *payload,
+                                           size_t length) {
+    return kulduvost_command(device, opcode, payload, length, time, area, KULDUVOST_LABEL_AREA_SIZE, reply, sizeof reply);
+}
+
 static kulduvost_command_answer command(kulduvost_device *device, uint16_t opcode, const uint8_t *payload, size_t length) {
-    return kulduvost_command(device, opcode, payload, length, 0, area, KULDUVOST_LABEL_AREA_SIZE, reply, sizeof reply);
+    return command_at(device, 0, opcode, payload, length);
 }
 
 /* Each function once, with an answer that document 01 states for a new device of one volatile unit. */
@@ -91,9 +96,22 @@ static void mailbox(kulduvost_device *device) {
            "a label area that is too great");
     expect(command(device, 0x7777, payload, long_by_one).code == KULDUVOST_INVALID_PAYLOAD_LENGTH, "a payload that is too long");
     expect(command(device, 0x7777, payload, long_by_one - 1).code == KULDUVOST_UNSUPPORTED_OPCODE,
-           "an opcode that is not one of the fourteen");
+           "an opcode that is not one of the fifteen");
     expect(command(device, KULDUVOST_GET_LOG, payload, 24).code == KULDUVOST_INVALID_LOG, "another log identifier");
     expect(command(device, KULDUVOST_CLEAR_EVENT_RECORDS, clear, sizeof clear).code == KULDUVOST_INVALID_HANDLE, "a handle of no record");
+}
+
+/* The Command Effects Log: 60 bytes, of which the last four are those of Sanitize (document 02, W-207). */
+static void effects_log(kulduvost_device *device) {
+    uint8_t whole[24] = {0x0d, 0xa9, 0xc0, 0xb5, 0xbf, 0x41, 0x4b, 0x78, 0x8f, 0x79, 0x96, 0xb1, 0x62, 0x3b, 0x3f, 0x17, 0, 0, 0, 0, 60};
+    static const uint8_t last[4] = {KULDUVOST_SANITIZE & 255, KULDUVOST_SANITIZE >> 8, 0x64, 0};
+    made(device, 1, 0);
+    kulduvost_command_answer done = command(device, KULDUVOST_GET_LOG, whole, sizeof whole);
+    expect(done.code == KULDUVOST_SUCCESS && done.length == 60 && memcmp(reply + 56, last, sizeof last) == 0, "the effects log");
+    whole[20]++;
+    expect(command(device, KULDUVOST_GET_LOG, whole, sizeof whole).code == KULDUVOST_INVALID_INPUT, "more than the effects log");
+    done = command(device, KULDUVOST_GET_SUPPORTED_LOGS, whole, 0);
+    expect(done.length == 28 && reply[24] == 60 && reply[25] == 0 && reply[26] == 0 && reply[27] == 0, "the size of the effects log");
 }
 
 static void event_logs(kulduvost_device *device) {
@@ -206,6 +224,219 @@ static void vectors(kulduvost_device *device) {
     expect(injection_raises(device, 2, KULDUVOST_VECTOR_NONE), "an injection, log Info not empty");
 }
 
+/* ---- Sanitize (document 02, W-207) */
+static const uint64_t second = 1000000000, begun = 50 * (uint64_t)1000000000, due = 54 * (uint64_t)1000000000;
+static const uint8_t nothing[KULDUVOST_EVENT_RECORD_SIZE] = {0};
+enum { DAMAGED_LINE = 3, DAMAGE = 2 };
+
+static bool line_is(const kulduvost_device *device, uint64_t address, uint16_t code, uint8_t answer, uint8_t type) {
+    kulduvost_line_answer told = kulduvost_line_test(device, address);
+    return told.code == code && told.answer == answer && told.type == type;
+}
+
+/* Media is disabled: a line that is covered and one that is not are answered alike. */
+static bool is_disabled(const kulduvost_device *device) {
+    return line_is(device, DAMAGED_LINE * KULDUVOST_LINE_SIZE, KULDUVOST_SUCCESS, KULDUVOST_DISABLED, 0) &&
+           line_is(device, 0, KULDUVOST_SUCCESS, KULDUVOST_DISABLED, 0);
+}
+
+/* The work has ended: the line is damaged as before, the others are clean, and no log holds a record. */
+static bool is_over(const kulduvost_device *device) {
+    return line_is(device, DAMAGED_LINE * KULDUVOST_LINE_SIZE, KULDUVOST_SUCCESS, KULDUVOST_DAMAGED, DAMAGE) &&
+           line_is(device, 0, KULDUVOST_SUCCESS, KULDUVOST_CLEAN, 0) && kulduvost_event_status(device).bits == 0 &&
+           kulduvost_damage_total(device) == 1;
+}
+
+/* Any command that is not refused, and changes nothing itself. */
+static bool is_over_at(kulduvost_device *device, uint64_t time) {
+    expect(command_at(device, time, KULDUVOST_GET_TIMESTAMP, nothing, 0).code == KULDUVOST_SUCCESS, "Get Timestamp");
+    expect(is_over(device) != is_disabled(device), "a Sanitize has ended or not");
+    return is_over(device);
+}
+
+/* The records of a log, and the handle of the last. */
+static size_t records_at(kulduvost_device *device, uint64_t time, uint8_t log, uint16_t *handle) {
+    kulduvost_command_answer done = command_at(device, time, KULDUVOST_GET_EVENT_RECORDS, &log, 1);
+    size_t records = done.code == KULDUVOST_SUCCESS ? (done.length - 32) / KULDUVOST_EVENT_RECORD_SIZE : 0;
+    const uint8_t *last = reply + 32 + (records == 0 ? 0 : records - 1) * KULDUVOST_EVENT_RECORD_SIZE;
+    *handle = records == 0 ? 0 : (uint16_t)(last[20] | last[21] << 8);
+    return records;
+}
+
+/* The answer of a Sanitize: no reply, no byte of buffer or area, no vector. */
+static uint16_t sanitize(kulduvost_device *device, uint64_t time) {
+    memset(reply, 0x5a, sizeof reply);
+    memset(area, 9, sizeof area);
+    kulduvost_command_answer done = command_at(device, time, KULDUVOST_SANITIZE, nothing, 0);
+    bool kept = done.vector == KULDUVOST_VECTOR_NONE && done.length == 0;
+    for (size_t i = 0; i < sizeof reply; i++) {
+        kept = kept && reply[i] == 0x5a;
+    }
+    for (size_t i = 0; i < sizeof area; i++) {
+        kept = kept && area[i] == 9;
+    }
+    expect(kept, "a Sanitize writes neither reply nor label area, and raises nothing");
+    return done.code;
+}
+
+/* A device with a damaged line, all logs enabled, eight records in each and a ninth counted; a Sanitize runs since that time. */
+static void sanitized(kulduvost_device *device, uint64_t time) {
+    made(device, 1, 0);
+    enable_all(device);
+    kulduvost_media_report(device, 0, DAMAGED_LINE * KULDUVOST_LINE_SIZE, 1, DAMAGE);
+    for (int i = 0; i < KULDUVOST_EVENT_LOGS * (KULDUVOST_EVENT_LOG_RECORDS + 1); i++) {
+        kulduvost_event_report(device, 0, (uint8_t)(i % KULDUVOST_EVENT_LOGS), nothing, sizeof nothing);
+    }
+    kulduvost_device before = *device;
+    expect(sanitize(device, time) == KULDUVOST_STARTED, "a Sanitize is started");
+    expect(memcmp(device, &before, sizeof before) != 0 && is_disabled(device), "and has changed the device");
+}
+
+/* The refusals while media is disabled, directly after that of the length. Each leaves device and label area. */
+static void refused_while_disabled(kulduvost_device *device) {
+    static const uint16_t opcodes[] = {KULDUVOST_INJECT_POISON, KULDUVOST_CLEAR_POISON, KULDUVOST_GET_LSA, KULDUVOST_SET_LSA};
+    static const size_t lengths[] = {8, 72, 8, 12};
+    static uint8_t labels[sizeof area];
+    uint8_t payload[72];
+    memset(payload, 0xff, sizeof payload); /* unaligned, outside, past the end, reserved */
+    sanitized(device, begun);
+    const kulduvost_device before = *device;
+    memcpy(labels, area, sizeof area);
+    for (size_t i = 0; i < 4; i++) {
+        expect(command_at(device, due - 1, opcodes[i], nothing, lengths[i]).code == KULDUVOST_MEDIA_DISABLED, "media is disabled");
+        expect(command_at(device, due - 1, opcodes[i], payload, lengths[i]).code == KULDUVOST_MEDIA_DISABLED, "before its own checks");
+        expect(command_at(device, due - 1, opcodes[i], payload, 7).code == KULDUVOST_INVALID_PAYLOAD_LENGTH, "after that of the length");
+    }
+    expect(memcmp(area, labels, sizeof area) == 0, "a refusal while media is disabled leaves the label area");
+    expect(sanitize(device, due - 1) == KULDUVOST_BUSY && sanitize(device, begun) == KULDUVOST_BUSY, "a Sanitize while one runs");
+    expect(command_at(device, due - 1, KULDUVOST_SANITIZE, nothing, 1).code == KULDUVOST_INVALID_PAYLOAD_LENGTH, "one with a payload");
+    expect(memcmp(device, &before, sizeof before) == 0, "a refusal while media is disabled leaves the device");
+    expect(line_is(device, 1, KULDUVOST_INVALID_INPUT, KULDUVOST_UNKNOWN, 0), "an unaligned address while disabled");
+    expect(line_is(device, (uint64_t)KULDUVOST_UNIT_LINES * KULDUVOST_LINE_SIZE, KULDUVOST_INVALID_PHYSICAL_ADDRESS, KULDUVOST_UNKNOWN, 0),
+           "an address outside while disabled");
+}
+
+/* From the start over the last nanosecond to the end: what is held until then, what is left and what goes on. */
+static void course(kulduvost_device *device) {
+    static const uint8_t first_lines[16] = {0, 0, 0, 0, 0, 0, 0, 0, 8}, five[8] = {5};
+    uint8_t later[8]; /* what the clock says at the due time */
+    uint16_t handle;
+    put(later, (uint32_t)(5 + due - begun));
+    put(later + 4, 0);
+    sanitized(device, begun);
+    expect(kulduvost_event_status(device).waiting == KULDUVOST_EVENT_LOGS && kulduvost_damage_total(device) == 1, "logs and list stay");
+    expect(!is_over_at(device, begun) && !is_over_at(device, due - 1), "one nanosecond before");
+    kulduvost_event_answer told = kulduvost_event_report(device, due - 1, KULDUVOST_LOG_FATAL, nothing, sizeof nothing);
+    expect(told.code == KULDUVOST_SUCCESS && !told.stored && told.vector == KULDUVOST_VECTOR_NONE, "a report to a full log before the end");
+    expect(kulduvost_media_report(device, due - 1, DAMAGED_LINE * KULDUVOST_LINE_SIZE, 1, 7).code == KULDUVOST_SUCCESS &&
+               is_disabled(device),
+           "a media report before the end");
+    expect(command_at(device, due - 1, KULDUVOST_GET_POISON_LIST, first_lines, sizeof first_lines).length == 32 + 16,
+           "the poison list before the end");
+    expect(command_at(device, begun, KULDUVOST_SET_TIMESTAMP, five, sizeof five).code == KULDUVOST_SUCCESS, "Set Timestamp before the end");
+    expect(records_at(device, due - 1, KULDUVOST_LOG_FATAL, &handle) == KULDUVOST_EVENT_LOG_RECORDS && handle == 8 && reply[2] == 2,
+           "the records and the overflow count until then");
+    expect(records_at(device, due, KULDUVOST_LOG_FATAL, &handle) == 0 && (reply[0] & 1) == 0 && reply[2] == 0 && is_over(device),
+           "none at the due time, and nothing counted");
+    expect(kulduvost_event_report(device, due, KULDUVOST_LOG_FATAL, nothing, sizeof nothing).vector == KULDUVOST_VECTOR_FATAL,
+           "the policy stays: the next record raises its vector");
+    expect(records_at(device, due, KULDUVOST_LOG_FATAL, &handle) == 1 && handle == 9 && reply[2] == 0, "next handles go on");
+    expect(command_at(device, due, KULDUVOST_GET_TIMESTAMP, nothing, 0).length == 8 && memcmp(reply, later, sizeof later) == 0,
+           "the clock goes on");
+    expect(command_at(device, due, KULDUVOST_GET_LSA, nothing, 8).code == KULDUVOST_SUCCESS, "labels can be read again");
+}
+
+/* A call of each kind at the due time, in a log that was full until then. */
+static void ended_by_a_report(kulduvost_device *device) {
+    static const uint8_t line_seven[8] = {(7 * KULDUVOST_LINE_SIZE) & 255, (7 * KULDUVOST_LINE_SIZE) >> 8};
+    uint16_t handle;
+    sanitized(device, begun);
+    kulduvost_event_answer event = kulduvost_event_report(device, due, KULDUVOST_LOG_WARNING, nothing, sizeof nothing);
+    expect(event.code == KULDUVOST_SUCCESS && event.stored && event.vector == KULDUVOST_VECTOR_WARNING, "an event report at the due time");
+    expect(kulduvost_event_status(device).bits == 1 << KULDUVOST_LOG_WARNING, "which leaves its record alone");
+    sanitized(device, begun);
+    kulduvost_media_answer media = kulduvost_media_report(device, due, DAMAGED_LINE * KULDUVOST_LINE_SIZE, 1, 1);
+    expect(media.code == KULDUVOST_SUCCESS && media.stored == 0 && is_over(device), "a media report at the due time");
+    sanitized(device, begun);
+    kulduvost_command_answer done = command_at(device, due, KULDUVOST_INJECT_POISON, line_seven, sizeof line_seven);
+    expect(done.code == KULDUVOST_SUCCESS && done.vector == KULDUVOST_VECTOR_INFO, "an injection at the due time");
+    expect(records_at(device, due, KULDUVOST_LOG_INFO, &handle) == 1 && handle == 9 && kulduvost_damage_total(device) == 2,
+           "which leaves its event");
+    sanitized(device, begun);
+    expect(sanitize(device, due) == KULDUVOST_STARTED && is_disabled(device) && kulduvost_event_status(device).bits == 0,
+           "a Sanitize at the due time ends the old one and starts another");
+    expect(!is_over_at(device, due + 4 * second - 1) && is_over_at(device, due + 4 * second), "which ends by its own beginning");
+}
+
+/* Calls that are refused on any device, media disabled or not: whether this one is, by its number. */
+enum { REFUSED_CALLS = 10 };
+static bool refused(kulduvost_device *device, uint64_t time, int call) {
+    const size_t size = KULDUVOST_LABEL_AREA_SIZE, room = sizeof reply;
+    const uint8_t *none = nothing;
+    switch (call) {
+    case 0: return kulduvost_command(device, 0x7777, none, 0, time, area, size, reply, room - 1).code == KULDUVOST_REPLY_BUFFER_TOO_SMALL;
+    case 1: return kulduvost_command(device, 0x7777, none, 0, time, area, size - 1, reply, room).code == KULDUVOST_REPLY_BUFFER_TOO_SMALL;
+    case 2: return command_at(device, time, 0x7777, none, 0).code == KULDUVOST_UNSUPPORTED_OPCODE;
+    case 3: return command_at(device, time, KULDUVOST_SET_LSA, none, 7).code == KULDUVOST_INVALID_PAYLOAD_LENGTH;
+    case 4: return command_at(device, time, KULDUVOST_SANITIZE, none, 1).code == KULDUVOST_INVALID_PAYLOAD_LENGTH;
+    case 5: return command_at(device, time, KULDUVOST_GET_LOG, none, 24).code == KULDUVOST_INVALID_LOG;
+    case 6: return kulduvost_event_report(device, time, 0, none, sizeof nothing - 1).code == KULDUVOST_INVALID_PAYLOAD_LENGTH;
+    case 7: return kulduvost_event_report(device, time, KULDUVOST_EVENT_LOGS, none, sizeof nothing).code == KULDUVOST_INVALID_INPUT;
+    case 8: return kulduvost_media_report(device, time, 0, 1, 3).code == KULDUVOST_INVALID_INPUT;
+    default: return kulduvost_media_report(device, time, 0, KULDUVOST_UNIT_LINES + 1, 1).code == KULDUVOST_INVALID_PHYSICAL_ADDRESS;
+    }
+}
+
+/* One at the due time is refused as ever, and leaves the device that the end leaves. */
+static void ended_by_a_refused_call(kulduvost_device *device) {
+    static const uint8_t unaligned[8] = {1};
+    for (int call = 0; call < REFUSED_CALLS; call++) {
+        sanitized(device, begun);
+        kulduvost_device before = *device;
+        expect(refused(device, due - 1, call), "refused before the due time");
+        expect(memcmp(device, &before, sizeof before) == 0, "a refused call before the due time leaves the device");
+        expect(refused(device, due, call) && is_over(device), "refused at the due time, and the end stays");
+        before = *device;
+        expect(refused(device, 0, call) && memcmp(device, &before, sizeof before) == 0, "refused when all is over");
+    }
+    sanitized(device, begun);
+    expect(command_at(device, due, KULDUVOST_INJECT_POISON, unaligned, sizeof unaligned).code == KULDUVOST_INVALID_INPUT && is_over(device),
+           "an injection that media no longer blocks, and its own check does");
+}
+
+/* The beginning and the due time are the caller's, whatever else a clock says. */
+static void times(kulduvost_device *device) {
+    static const uint8_t late[8] = {0xff, 0xff, 0xff, 0xff, 0xff, 0xff, 0xff, 0xff};
+    sanitized(device, begun);
+    expect(!is_over_at(device, begun - 1) && !is_over_at(device, 0), "a clock that goes back ends nothing");
+    expect(command_at(device, begun, KULDUVOST_SET_TIMESTAMP, late, 8).code == KULDUVOST_SUCCESS && is_disabled(device),
+           "nor does the device time");
+    expect(!is_over_at(device, due - 1) && is_over_at(device, UINT64_MAX), "a time long past the due one");
+    expect(is_over_at(device, begun), "a clock that goes back then starts nothing");
+    sanitized(device, 0);
+    expect(!is_over_at(device, 4 * second - 1) && is_over_at(device, 4 * second), "a beginning at 0");
+    sanitized(device, UINT64_MAX - 4 * second);
+    expect(!is_over_at(device, UINT64_MAX - 1) && !is_over_at(device, 0) && is_over_at(device, UINT64_MAX), "the last due time");
+    sanitized(device, UINT64_MAX - 4 * second + 1);
+    expect(!is_over_at(device, UINT64_MAX) && !is_over_at(device, 0) && !is_over_at(device, 4 * second), "one that never comes");
+    sanitized(device, UINT64_MAX);
+    expect(!is_over_at(device, UINT64_MAX) && !is_over_at(device, 4 * second - 1) && !is_over_at(device, due), "the last beginning");
+}
+
+/* The rows of the table: the fewest and the most units of each, of both kinds together. */
+static void durations(kulduvost_device *device) {
+    static const uint16_t most[] = {2, 4, 8, 16, 32, 64, 128, 256, 512, KULDUVOST_UNITS_MAX};
+    static const uint16_t seconds[] = {4, 8, 15, 30, 60, 120, 240, 480, 900, 1800};
+    for (size_t i = 0; i < 20; i++) {
+        uint16_t units = i % 2 == 1 ? most[i / 2] : (uint16_t)(i == 0 ? 1 : most[i / 2 - 1] + 1), half = (uint16_t)(units / 2);
+        uint64_t end = begun + seconds[i / 2] * second;
+        made(device, half, (uint16_t)(units - half));
+        kulduvost_media_report(device, 0, DAMAGED_LINE * KULDUVOST_LINE_SIZE, 1, DAMAGE);
+        expect(sanitize(device, begun) == KULDUVOST_STARTED && !is_over_at(device, end - 1) && is_over_at(device, end),
+               "a row of the table");
+    }
+}
+
 static void poison_entries(kulduvost_device *device) {
     static uint8_t payload[8];
     uint32_t stored = 0;
@@ -231,9 +462,16 @@ int main(void) {
         calls(&heap[1]);
         units_and_lines(&heap[0]);
         mailbox(&heap[0]);
+        effects_log(&heap[0]);
         label_area(&heap[0]);
         event_logs(&heap[0]);
         vectors(&heap[0]);
+        refused_while_disabled(&heap[0]);
+        course(&heap[0]);
+        ended_by_a_report(&heap[0]);
+        ended_by_a_refused_call(&heap[0]);
+        times(&heap[0]);
+        durations(&heap[0]);
         poison_entries(&heap[0]);
     }
     free(heap);

@@ -4,7 +4,7 @@
  * measure KIND TIMES   makes the calls of one kind that many times, for callgrind to count; KIND is a name of the table
  *
  * Beside the line test stands the same test in plain C, over the same arrays of the same device. For that alone this program knows where
- * the poison list lies in a device (crates/embed/proofs/Header.antt); a caller has no business there.
+ * the poison list and the media flag lie in a device (crates/embed/proofs/Header.antt); a caller has no business there.
  */
 #define _POSIX_C_SOURCE 199309L
 #include "kulduvost.h"
@@ -31,6 +31,7 @@ static const uint32_t *lengths_of(const kulduvost_device *d) { return starts_of(
 static const uint8_t *types_of(const kulduvost_device *d) { return list_of(d) + 2048; }
 static size_t count_of(const kulduvost_device *d) { return *(const size_t *)(const void *)(list_of(d) + 2304); }
 static bool overflow_of(const kulduvost_device *d) { return list_of(d)[2312] != 0; }
+static bool disabled_of(const kulduvost_device *d) { return *((const uint8_t *)d + 7648) != 0; }
 
 static kulduvost_line_answer uncovered(const kulduvost_device *d) {
     return (kulduvost_line_answer){KULDUVOST_SUCCESS, overflow_of(d) ? KULDUVOST_UNKNOWN : KULDUVOST_CLEAN, 0};
@@ -42,6 +43,8 @@ static kulduvost_line_answer covered(const kulduvost_device *d, size_t i) {
 
 static kulduvost_line_answer refused(uint16_t code) { return (kulduvost_line_answer){code, KULDUVOST_UNKNOWN, 0}; }
 
+static kulduvost_line_answer while_disabled(void) { return (kulduvost_line_answer){KULDUVOST_SUCCESS, KULDUVOST_DISABLED, 0}; }
+
 /* binary search with an if */
 __attribute__((noinline)) static kulduvost_line_answer plain_if(const kulduvost_device *d, uint64_t address) {
     if (address % KULDUVOST_LINE_SIZE != 0) {
@@ -49,6 +52,9 @@ __attribute__((noinline)) static kulduvost_line_answer plain_if(const kulduvost_
     }
     if (address / KULDUVOST_LINE_SIZE >= KULDUVOST_UNIT_LINES) {
         return refused(KULDUVOST_INVALID_PHYSICAL_ADDRESS);
+    }
+    if (disabled_of(d)) {
+        return while_disabled();
     }
     uint32_t line = (uint32_t)(address / KULDUVOST_LINE_SIZE);
     size_t low = 0, high = count_of(d);
@@ -72,6 +78,9 @@ __attribute__((noinline)) static kulduvost_line_answer plain_arithmetic(const ku
     if (address / KULDUVOST_LINE_SIZE >= KULDUVOST_UNIT_LINES) {
         return refused(KULDUVOST_INVALID_PHYSICAL_ADDRESS);
     }
+    if (disabled_of(d)) {
+        return while_disabled();
+    }
     uint32_t line = (uint32_t)(address / KULDUVOST_LINE_SIZE);
     size_t at = 0, size = count_of(d);
     while (size > 1) {
@@ -92,8 +101,12 @@ static void put(uint8_t *to, uint64_t number, size_t bytes) {
     }
 }
 
+/* The caller's time of a call; of one that ends a Sanitize, which was started at that time, 4 seconds more. */
+enum { TIME = 1000 };
+static uint64_t now_is = TIME;
+
 static void command(uint16_t opcode, size_t length) {
-    sink = kulduvost_command(device, opcode, payload, length, 1000, labels, sizeof labels, reply, sizeof reply).length;
+    sink = kulduvost_command(device, opcode, payload, length, now_is, labels, sizeof labels, reply, sizeof reply).length;
 }
 
 /* A random line of the device, never the same sequence twice: a repeated one would be learned by the processor's branch prediction. The
@@ -125,7 +138,7 @@ static void unknown_opcode(void) { command(0x7777, 0); }
 
 static void get_log(void) {
     static const uint8_t whole[24] = {0x0d, 0xa9, 0xc0, 0xb5, 0xbf, 0x41, 0x4b, 0x78, 0x8f, 0x79, 0x96, 0xb1,
-                                      0x62, 0x3b, 0x3f, 0x17, 0,    0,    0,    0,    56,   0,    0,    0};
+                                      0x62, 0x3b, 0x3f, 0x17, 0,    0,    0,    0,    60,   0,    0,    0};
     memcpy(payload, whole, sizeof whole);
     command(KULDUVOST_GET_LOG, sizeof whole);
 }
@@ -174,18 +187,29 @@ static void clear_event_records(void) {
     command(KULDUVOST_CLEAR_EVENT_RECORDS, sizeof oldest);
 }
 
-static void event_report(uint8_t log) { sink = kulduvost_event_report(device, 1000, log, record, sizeof record).stored; }
+static void event_report(uint8_t log) { sink = kulduvost_event_report(device, now_is, log, record, sizeof record).stored; }
 static void event_full(void) { event_report(KULDUVOST_LOG_INFO); }
 static void event_room(void) { event_report(KULDUVOST_LOG_WARNING); }
 
-static void media_report(uint64_t address) { sink = kulduvost_media_report(device, 1000, address, 1, 1).stored; }
+static void media_report(uint64_t address) { sink = kulduvost_media_report(device, now_is, address, 1, 1).stored; }
 static void media_covered(void) { media_report(random_entry()); }
 static void media_uncovered(void) { media_report(random_between()); }
 static void make(void) { sink = kulduvost_make(device, 1, 0); }
 
+static void sanitize(void) { command(KULDUVOST_SANITIZE, 0); }
+static void ending(void (*call)(void)) {
+    now_is = TIME + UINT64_C(4000000000);
+    call();
+    now_is = TIME;
+}
+static void ending_get_timestamp(void) { ending(get_timestamp); }
+static void ending_inject(void) { ending(inject_uncovered); }
+static void ending_event(void) { ending(event_full); }
+static void ending_media(void) { ending(media_covered); }
+
 /* ---- The kinds: a call, the entries held before it, and how many calls can be made before the device must be put back. Log Info is full
  * before a call where the kind does not say that it is empty. */
-enum { MANY = 4096, EMPTY = UINT16_MAX /* entries: no device yet, all zero */ };
+enum { MANY = 4096, EMPTY = UINT16_MAX /* entries: no device yet, all zero */, SANITIZED = 1 << 16 /* and a Sanitize runs */ };
 
 static const struct kind {
     const char *name;
@@ -233,6 +257,14 @@ static const struct kind {
     {"media report of a new line, 0 entries", 0, 1, media_uncovered},
     {"media report of a new line, 255 entries", 255, 1, media_uncovered},
     {"media report, dropped", 256, MANY, media_uncovered},
+    {"Sanitize", 255, 1, sanitize},
+    {"Sanitize while one runs", 255 | SANITIZED, MANY, sanitize},
+    {"line test while media is disabled, 256 entries", 256 | SANITIZED, MANY, line_test},
+    {"Get Timestamp while media is disabled", 255 | SANITIZED, MANY, get_timestamp},
+    {"Get Timestamp that ends a Sanitize", 255 | SANITIZED, 1, ending_get_timestamp},
+    {"Inject Poison of a new line that ends a Sanitize, 255 entries", 255 | SANITIZED, 1, ending_inject},
+    {"event report that ends a Sanitize", 255 | SANITIZED, 1, ending_event},
+    {"media report of a covered line that ends a Sanitize, 256 entries", 256 | SANITIZED, 1, ending_media},
     {"make", EMPTY, 1, make},
 };
 enum { KINDS = sizeof kinds / sizeof *kinds };
@@ -240,24 +272,26 @@ enum { KINDS = sizeof kinds / sizeof *kinds };
 static bool same(kulduvost_line_answer a, kulduvost_line_answer b) { return a.code == b.code && a.answer == b.answer && a.type == b.type; }
 
 /* The plain tests answer what the library answers: otherwise they read other arrays, and their times tell nothing. */
-static bool answers_agree(void) {
+static void answers_agree(void) {
     for (int i = 0; i < MANY; i++) {
         uint64_t address = i % 2 == 0 ? random_entry() : random_line();
         kulduvost_line_answer told = kulduvost_line_test(device, address);
         if (!same(told, plain_if(device, address)) || !same(told, plain_arithmetic(device, address))) {
-            return false;
+            fputs("measure: the poison list or the media flag lies elsewhere in a device\n", stderr);
+            exit(1);
         }
     }
-    return true;
 }
 
-/* The entries; the interrupts of all logs enabled; eight records in log Info, the first with handle 1, or none; none in the other logs. */
+/* The entries; the interrupts of all logs enabled; eight records in log Info, the first with handle 1, or none; none in the other logs; a
+ * Sanitize started last. */
 static void prepare(const struct kind *kind) {
     int records = kind->call == inject_info_empty ? 0 : KULDUVOST_EVENT_LOG_RECORDS;
+    uint32_t entries = kind->entries % SANITIZED;
     memset(device, 0, sizeof *device);
     if (kind->entries != EMPTY) {
         kulduvost_make(device, 1, 0);
-        for (uint32_t i = 0; i < kind->entries; i++) {
+        for (uint32_t i = 0; i < entries; i++) {
             media_report(i * GAP);
         }
         memset(payload, 1, KULDUVOST_EVENT_LOGS);
@@ -265,10 +299,11 @@ static void prepare(const struct kind *kind) {
         for (int i = 0; i < records; i++) {
             event_report(KULDUVOST_LOG_INFO);
         }
-    }
-    if (kind->entries != EMPTY && !answers_agree()) {
-        fputs("measure: the poison list lies elsewhere in a device\n", stderr);
-        exit(1);
+        answers_agree();
+        if (kind->entries != entries) {
+            sanitize();
+            answers_agree();
+        }
     }
     memcpy(&before, device, sizeof before);
     memset(payload, 0, sizeof payload);

@@ -4,8 +4,8 @@
  * AR, AB); those of the host's library are unknown marks here.
  *
  * What the formats do not show is checked here after each call, and ends the program by a signal: no byte beside what is lent or the
- * device is written, no byte of a payload or record is, a call that is refused or only reads leaves every byte of the device, and every
- * command but a Set LSA that is not refused leaves every byte of the label area.
+ * device is written, no byte of a payload or record is, a call that is refused or only reads leaves every byte of the device (where a
+ * Sanitize was due: of the device after its end), and every command but a Set LSA that is not refused leaves every byte of the label area.
  */
 #include "kulduvost.h"
 #include "lent.h"
@@ -77,22 +77,65 @@ static size_t record_size(const struct format *format, const uint8_t *record, si
 struct tested {
     const struct format *format;
     struct lent device;
-    uint8_t before[KULDUVOST_DEVICE_SIZE];
+    kulduvost_device before;     /* what a call that is refused or only reads must leave */
+    bool ends;                   /* the call ends a Sanitize */
     uint8_t labels[LABEL_STORE]; /* the label store of document 10, zero at first; a make leaves it and the size lent */
     size_t label_size;           /* how many of its first bytes are lent with a command: in bench always 4,096 */
 };
 
 static kulduvost_device *device_of(struct tested *tested) { return (kulduvost_device *)(void *)tested->device.bytes; }
 
-static void before_call(struct tested *tested) { memcpy(tested->before, tested->device.bytes, sizeof tested->before); }
+/* Bytes that no field of a device has (crates/embed/proofs/Header.antt): four of each log, and seven after the media flag. The end of a
+ * Sanitize stores logs and media anew, and what it leaves there is not said; every other call leaves these bytes too where it is refused. */
+static bool is_hole(size_t i) {
+    enum { LOGS = 40, LOG = 1056, HOLE = 1036, HOLE_END = 1040, MEDIA = 7648, SINCE = 7656 };
+    size_t in_log = (i - LOGS) % LOG;
+    bool of_log = LOGS <= i && i < LOGS + KULDUVOST_EVENT_LOGS * LOG;
+    return (of_log && HOLE <= in_log && in_log < HOLE_END) || (MEDIA < i && i < SINCE);
+}
+
+static bool as_before(const struct tested *tested, bool holes_too) {
+    const uint8_t *before = (const uint8_t *)&tested->before, *after = tested->device.bytes;
+    if (memcmp(before, after, KULDUVOST_DEVICE_SIZE) == 0) {
+        return true;
+    }
+    for (size_t i = 0; i < KULDUVOST_DEVICE_SIZE; i++) {
+        if (before[i] != after[i] && (holes_too || !is_hole(i))) {
+            return false;
+        }
+    }
+    return true;
+}
+
+static void before_call(struct tested *tested) {
+    memcpy(&tested->before, tested->device.bytes, sizeof tested->before);
+    tested->ends = false;
+}
+
+static bool disabled(const kulduvost_device *device) { return kulduvost_line_test(device, 0).answer == KULDUVOST_DISABLED; }
+
+/* The same of a call that carries a time, and so first ends a Sanitize that is due (document 02, W-207): what it must leave where it is
+ * refused is what a refused call of another kind leaves of a copy, at that time. That one may change nothing else. */
+static void before_call_at(struct tested *tested, uint64_t time, bool event_report) {
+    const uint8_t no_record[1] = {0};
+    before_call(tested);
+    uint16_t code = event_report ? kulduvost_media_report(&tested->before, time, 0, 0, 0).code
+                                 : kulduvost_event_report(&tested->before, time, 0, no_record, 0).code;
+    tested->ends = disabled(device_of(tested)) && !disabled(&tested->before) && kulduvost_event_status(&tested->before).bits == 0;
+    if (code == KULDUVOST_SUCCESS || !(tested->ends || as_before(tested, true))) {
+        stop("a refused call changed the device, and not by the end of a Sanitize");
+    }
+}
 
 /* `kept`: the call was refused or only reads, so that the device must be as it was. */
 static void after_call(struct tested *tested, bool kept) {
     lent_check(tested->device);
-    if (kept && memcmp(tested->before, tested->device.bytes, sizeof tested->before) != 0) {
+    if (kept && !as_before(tested, !tested->ends)) {
         stop("the device was changed by a call that was refused or only reads");
     }
 }
+
+static bool is_refusal(uint16_t code) { return code != KULDUVOST_SUCCESS && code != KULDUVOST_STARTED; }
 
 /* A payload or record: a buffer of its own with exactly its bytes. */
 static struct lent lend(const uint8_t *from, size_t length) {
@@ -194,16 +237,17 @@ static bool serve_make(struct tested *tested, const uint8_t *record) {
 static void serve_command(struct tested *tested, const uint8_t *record, size_t size) {
     size_t room = tested->format == &bench ? KULDUVOST_MAILBOX_SIZE : number(record + 12, 2);
     uint8_t fill = tested->format == &bench ? 0xc3 : record[14];
+    uint64_t time = number(record + 2, 8);
     uint16_t opcode = (uint16_t)number(record + 10, 2);
     const uint8_t *payload_at = record + (tested->format == &bench ? 14 : 17);
     struct lent payload = lend(payload_at, size - (size_t)(payload_at - record));
     struct lent area = lend_labels(tested);
     struct lent reply = lent_new(room);
     memset(reply.bytes, fill, room);
-    before_call(tested);
-    kulduvost_command_answer done = kulduvost_command(device_of(tested), opcode, payload.bytes, payload.length, number(record + 2, 8),
-                                                      area.bytes, area.length, reply.bytes, reply.length);
-    after_call(tested, done.code != KULDUVOST_SUCCESS);
+    before_call_at(tested, time, false);
+    kulduvost_command_answer done = kulduvost_command(device_of(tested), opcode, payload.bytes, payload.length, time, area.bytes,
+                                                      area.length, reply.bytes, reply.length);
+    after_call(tested, is_refusal(done.code));
     take_back(payload, payload_at);
     take_labels_back(tested, area, done.code != KULDUVOST_SUCCESS || opcode != KULDUVOST_SET_LSA);
     lent_check(reply);
@@ -214,9 +258,10 @@ static void serve_command(struct tested *tested, const uint8_t *record, size_t s
 static void serve_event(struct tested *tested, const uint8_t *record, size_t size) {
     const uint8_t *bytes_at = record + (tested->format == &bench ? 11 : 13);
     struct lent bytes = lend(bytes_at, size - (size_t)(bytes_at - record));
-    before_call(tested);
-    kulduvost_event_answer told = kulduvost_event_report(device_of(tested), number(record + 2, 8), record[10], bytes.bytes, bytes.length);
-    after_call(tested, told.code != KULDUVOST_SUCCESS);
+    uint64_t time = number(record + 2, 8);
+    before_call_at(tested, time, true);
+    kulduvost_event_answer told = kulduvost_event_report(device_of(tested), time, record[10], bytes.bytes, bytes.length);
+    after_call(tested, is_refusal(told.code));
     take_back(bytes, bytes_at);
     if (!only_code(tested, "EV", told.code)) {
         printf("EV %u %d", told.code, told.stored);
@@ -228,10 +273,11 @@ static void serve_event(struct tested *tested, const uint8_t *record, size_t siz
 }
 
 static void serve_media(struct tested *tested, const uint8_t *record) {
-    before_call(tested);
-    kulduvost_media_answer told = kulduvost_media_report(device_of(tested), number(record + 2, 8), number(record + 10, 8),
-                                                         (uint32_t)number(record + 18, 4), record[22]);
-    after_call(tested, told.code != KULDUVOST_SUCCESS);
+    uint64_t time = number(record + 2, 8);
+    before_call_at(tested, time, false);
+    kulduvost_media_answer told =
+        kulduvost_media_report(device_of(tested), time, number(record + 10, 8), (uint32_t)number(record + 18, 4), record[22]);
+    after_call(tested, is_refusal(told.code));
     if (!only_code(tested, "MD", told.code)) {
         printf("MD %u %u %u\n", told.code, told.stored, told.dropped);
     }

@@ -102,6 +102,7 @@ struct row {
     bool flag_before;   /* the overflow flag is set before */
     int info_room;      /* records that log Info has room for before */
     bool disabled;      /* the interrupts of the logs are disabled before; otherwise enabled */
+    enum { MEDIA_ENABLED, MEDIA_DISABLED, WORK_DUE } media; /* before: a Sanitize runs; it is due to end, and the call ends it */
     uint16_t code;      /* the answer expected */
     uint8_t vector;
     uint64_t values[3];
@@ -112,8 +113,11 @@ struct row {
     size_t labels;      /* bytes of data that a Set LSA writes to the area */
 };
 enum { NONE = -1 };
-/* The caller's time at which the device time was set, what it was set to, the caller's time of every call, and the device time then. */
+/* The caller's time at which the device time was set, what it was set to, the caller's time of every call, and the device time then. A
+ * Sanitize is started at that time too; DUE is the time of a call that ends it, and how far the device time has come meanwhile. */
 enum { SET_AT = 400, SET_TO = 70000, TIME = 1000, DEVICE_TIME = SET_TO + (TIME - SET_AT) };
+#define LASTS UINT64_C(4000000000)
+#define DUE (TIME + LASTS)
 #define AS_HELD UINT64_MAX /* expected: the number of lines held */
 
 #define CALL(name, type, function, arguments, ...) \
@@ -122,15 +126,16 @@ enum { SET_AT = 400, SET_TO = 70000, TIME = 1000, DEVICE_TIME = SET_TO + (TIME -
         type a = ((__typeof__(&function))noted_pointer)arguments; \
         told = (struct answer){__VA_ARGS__}; \
     }
+#define CALL_TIME (now->media == WORK_DUE ? DUE : TIME)
 CALL(make, uint16_t, kulduvost_make, (&device, now->units, 0), .code = a)
 CALL(command, kulduvost_command_answer, kulduvost_command,
-     (&device, now->opcode, now->payload, now->length, TIME, area, (size_t)(KULDUVOST_LABEL_AREA_SIZE + now->area_more), reply,
+     (&device, now->opcode, now->payload, now->length, CALL_TIME, area, (size_t)(KULDUVOST_LABEL_AREA_SIZE + now->area_more), reply,
       sizeof reply - now->missing),
      a.code, a.vector, {a.length})
-CALL(event_report, kulduvost_event_answer, kulduvost_event_report, (&device, TIME, now->log, record, now->length), a.code, a.vector,
+CALL(event_report, kulduvost_event_answer, kulduvost_event_report, (&device, CALL_TIME, now->log, record, now->length), a.code, a.vector,
      {a.stored})
-CALL(media_report, kulduvost_media_answer, kulduvost_media_report, (&device, TIME, now->address, now->lines, now->type), .code = a.code,
-     .values = {a.stored, a.dropped})
+CALL(media_report, kulduvost_media_answer, kulduvost_media_report, (&device, CALL_TIME, now->address, now->lines, now->type),
+     .code = a.code, .values = {a.stored, a.dropped})
 CALL(line_test, kulduvost_line_answer, kulduvost_line_test, (&device, now->address), .code = a.code, .values = {a.answer, a.type})
 CALL(event_status, kulduvost_event_status_answer, kulduvost_event_status, (&device), .values = {a.bits, a.waiting, a.highest})
 CALL(damage_total, uint64_t, kulduvost_damage_total, (&device), .values = {a})
@@ -159,7 +164,7 @@ static const uint8_t clear_second[8] = {KULDUVOST_LOG_INFO, 0, 1, 0, 0, 0, 2};
 static const uint8_t clear_flagged[8] = {KULDUVOST_LOG_INFO, 0x80, 1, 0, 0, 0, 1}, clear_reserved[8] = {KULDUVOST_LOG_INFO, 0, 1, 0, 0, 1, 1};
 static const uint8_t mode_two[5] = {0, 0, 0, 0, 2};
 #define EFFECTS 0x0d, 0xa9, 0xc0, 0xb5, 0xbf, 0x41, 0x4b, 0x78, 0x8f, 0x79, 0x96, 0xb1, 0x62, 0x3b, 0x3f, 0x17
-static const uint8_t whole_log[24] = {EFFECTS, 0, 0, 0, 0, 56}, log_past[24] = {EFFECTS, 1, 0, 0, 0, 56}, other_log[24] = {0};
+static const uint8_t whole_log[24] = {EFFECTS, 0, 0, 0, 0, 60}, log_past[24] = {EFFECTS, 1, 0, 0, 0, 60}, other_log[24] = {0};
 /* offset 4, then length 4 of a Get LSA or reserved 4 of a Set LSA, whose data are zeros (document 02, W-206) */
 #define HALVES(low, high) (low) & 255, (low) >> 8, 0, 0, (high) & 255, (high) >> 8, 0, 0
 static const uint8_t get_half[8] = {HALVES(2048, 2048)}, get_none[8] = {HALVES(4096, 0)}, get_longer[8] = {HALVES(0, 2049)};
@@ -172,6 +177,10 @@ static const uint8_t set_most[KULDUVOST_MAILBOX_SIZE] = {HALVES(2056, 0)}, set_p
 static const uint8_t first_event[KULDUVOST_EVENT_RECORD_SIZE] = INJECTED(1), second_event[KULDUVOST_EVENT_RECORD_SIZE] = INJECTED(2);
 /* and the one of `record`, with which `prepare` filled log Info */
 static const uint8_t eighth_event[KULDUVOST_EVENT_RECORD_SIZE] = {[20] = 8, [24] = BYTES(DEVICE_TIME)};
+/* both as the first record of a log that the end of a Sanitize emptied: "next handles go on" (document 02, W-207) */
+static const uint8_t ninth_event[KULDUVOST_EVENT_RECORD_SIZE] = {[20] = 9, [24] = BYTES(DEVICE_TIME + LASTS)};
+static const uint8_t ninth_injected[KULDUVOST_EVENT_RECORD_SIZE] = {[16] = 128, [20] = 9, [24] = BYTES(DEVICE_TIME + LASTS),
+                                                                    [48] = BYTES(FREE)};
 
 /* ---- The kinds of calls */
 #define MAKE(n) .call = make, .units = n
@@ -182,6 +191,9 @@ static const uint8_t eighth_event[KULDUVOST_EVENT_RECORD_SIZE] = {[20] = 8, [24]
 #define RAISES(log) .vector = KULDUVOST_VECTOR_##log
 #define ONE_LINE_MORE .more_entries = 1, .more_lines = 1
 #define REFUSED(why) .code = KULDUVOST_##why
+#define STARTS .code = KULDUVOST_STARTED
+#define BLOCKED .media = MEDIA_DISABLED, REFUSED(MEDIA_DISABLED)
+#define ENDS .media = WORK_DUE
 #define BAD_LENGTH REFUSED(INVALID_PAYLOAD_LENGTH)
 #define BAD_INPUT REFUSED(INVALID_INPUT)
 #define BAD_ADDRESS REFUSED(INVALID_PHYSICAL_ADDRESS)
@@ -215,7 +227,7 @@ static const struct row rows[] = {
     {"Set Timestamp, refused: length", 0, 256, ASK(SET_TIMESTAMP, timestamp, 7), BAD_LENGTH},
     {"Get Supported Logs", 0, 256, ASK(GET_SUPPORTED_LOGS, none, 0), .values = {28}},
     {"Get Supported Logs, refused: length", 0, 256, ASK(GET_SUPPORTED_LOGS, none, 1), BAD_LENGTH},
-    {"Get Log, all of it", 0, 256, ASK(GET_LOG, whole_log, 24), .values = {56}},
+    {"Get Log, all of it", 0, 256, ASK(GET_LOG, whole_log, 24), .values = {60}},
     {"Get Log, refused: length", 0, 256, ASK(GET_LOG, whole_log, 23), BAD_LENGTH},
     {"Get Log, refused: identifier", 0, 256, ASK(GET_LOG, other_log, 24), REFUSED(INVALID_LOG)},
     {"Get Log, refused: range", 0, 256, ASK(GET_LOG, log_past, 24), BAD_INPUT},
@@ -224,11 +236,13 @@ static const struct row rows[] = {
     {"Get LSA, no byte", 0, 256, ASK(GET_LSA, get_none, 8)},
     {"Get LSA, 2,048 bytes", 0, 256, ASK(GET_LSA, get_half, 8), .values = {2048}},
     {"Get LSA, refused: length", 0, 256, ASK(GET_LSA, get_half, 7), BAD_LENGTH},
+    {"Get LSA, refused: media disabled", 0, 256, ASK(GET_LSA, get_half, 8), BLOCKED},
     {"Get LSA, refused: over 2,048 bytes", 0, 256, ASK(GET_LSA, get_longer, 8), BAD_INPUT},
     {"Get LSA, refused: past the end", 0, 256, ASK(GET_LSA, get_past, 8), BAD_INPUT},
     {"Set LSA, no data", 0, 256, ASK(SET_LSA, set_none, 8)},
     {"Set LSA, 2,040 bytes of data", 0, 256, ASK(SET_LSA, set_most, sizeof set_most), .labels = 2040},
     {"Set LSA, refused: length", 0, 256, ASK(SET_LSA, set_none, 7), BAD_LENGTH},
+    {"Set LSA, refused: media disabled", 0, 256, ASK(SET_LSA, set_most, sizeof set_most), BLOCKED},
     {"Set LSA, refused: reserved byte", 0, 256, ASK(SET_LSA, set_reserved, 9), BAD_INPUT},
     {"Set LSA, refused: past the end", 0, 256, ASK(SET_LSA, set_past, sizeof set_past), BAD_INPUT},
     {"Get Poison List, no record", 0, 256, ASK(GET_POISON_LIST, no_entry, 16), .values = {32}},
@@ -248,6 +262,7 @@ static const struct row rows[] = {
     {"Inject Poison of a covered line, log Info full", 1, 256, ASK(INJECT_POISON, first_line, 8), .event = eighth_event},
     {"Inject Poison, refused: 256 entries held", NONE, 256, ASK(INJECT_POISON, new_line, 8), .info_room = 8, REFUSED(INJECT_POISON_LIMIT)},
     {"Inject Poison, refused: length", 0, 256, ASK(INJECT_POISON, new_line, 7), .info_room = 8, BAD_LENGTH},
+    {"Inject Poison, refused: media disabled", 0, 256, ASK(INJECT_POISON, new_line, 8), .info_room = 8, BLOCKED},
     {"Inject Poison, refused: unaligned", 0, 256, ASK(INJECT_POISON, unaligned, 8), .info_room = 8, BAD_INPUT},
     {"Inject Poison, refused: outside", 0, 256, ASK(INJECT_POISON, outside, 8), .info_room = 8, BAD_ADDRESS},
     {"Clear Poison of an uncovered line", 0, 256, ASK(CLEAR_POISON, new_line, 72)},
@@ -259,8 +274,26 @@ static const struct row rows[] = {
     {"Clear Poison of a line within an entry, the part after dropped", NONE, 256, ASK(CLEAR_POISON, second_line, 72), .long_by = 2,
      .more_lines = -2, .flag_set = true},
     {"Clear Poison, refused: length", 0, 256, ASK(CLEAR_POISON, new_line, 71), BAD_LENGTH},
+    {"Clear Poison, refused: media disabled", 0, 256, ASK(CLEAR_POISON, first_line, 72), BLOCKED},
     {"Clear Poison, refused: unaligned", 0, 256, ASK(CLEAR_POISON, unaligned, 72), BAD_INPUT},
     {"Clear Poison, refused: outside", 0, 256, ASK(CLEAR_POISON, outside, 72), BAD_ADDRESS},
+    {"Sanitize", 0, 256, ASK(SANITIZE, none, 0), STARTS},
+    {"Sanitize, refused: length", 0, 256, ASK(SANITIZE, none, 1), BAD_LENGTH},
+    {"Sanitize, refused: one runs", 0, 256, ASK(SANITIZE, none, 0), .media = MEDIA_DISABLED, REFUSED(BUSY)},
+    {"Sanitize, another that is due ended first", 0, 256, ASK(SANITIZE, none, 0), ENDS, STARTS},
+    {"Get Timestamp, a Sanitize ended first", 0, 256, ASK(GET_TIMESTAMP, none, 0), ENDS, .values = {8}},
+    {"Get Event Records, a Sanitize ended first", 0, 256, ASK(GET_EVENT_RECORDS, log_info, 1), ENDS, .values = {32}},
+    {"Get LSA, 2,048 bytes, a Sanitize ended first", 0, 256, ASK(GET_LSA, get_half, 8), ENDS, .values = {2048}},
+    {"Get Poison List, 126 records, a Sanitize ended first", 126, 256, ASK(GET_POISON_LIST, all_lines, 16), ENDS,
+     .values = {32 + 126 * 16}},
+    {"Inject Poison of a new line, a Sanitize ended first", 0, 255, ASK(INJECT_POISON, new_line, 8), ENDS, RAISES(INFO), ONE_LINE_MORE,
+     .more_records = 1, .event = ninth_injected},
+    {"Clear Poison of an entry's only line, a Sanitize ended first", 1, 256, ASK(CLEAR_POISON, first_line, 72), ENDS, .more_entries = -1,
+     .more_lines = -1},
+    {"Clear Event Records, a Sanitize ended first, refused: handle", 0, 256, ASK(CLEAR_EVENT_RECORDS, clear_oldest, 8), ENDS,
+     REFUSED(INVALID_HANDLE)},
+    {"command, a Sanitize ended first, refused: reply buffer too small", 0, 256, ASK(IDENTIFY, none, 0), ENDS, .missing = 1,
+     REFUSED(REPLY_BUFFER_TOO_SMALL)},
     {"command, refused: reply buffer too small", 0, 256, ASK(IDENTIFY, none, 0), .missing = 1, REFUSED(REPLY_BUFFER_TOO_SMALL)},
     {"command, refused: label area too small", 0, 256, ASK(IDENTIFY, none, 0), .area_more = -1, REFUSED(REPLY_BUFFER_TOO_SMALL)},
     {"command, refused: label area too great", 0, 256, ASK(IDENTIFY, none, 0), .area_more = 1, REFUSED(REPLY_BUFFER_TOO_SMALL)},
@@ -273,6 +306,9 @@ static const struct row rows[] = {
      RAISES(DYNAMIC_CAPACITY), .more_records = 1},
     {"event report to an empty log, disabled", 0, 256, EVENT(LOG_FATAL, 128), .values = {1}, .disabled = true, .more_records = 1},
     {"event report to a full log", 0, 256, EVENT(LOG_INFO, 128), .values = {0}, .more_overflow = 1, .event = eighth_event},
+    {"event report to a log that was full, a Sanitize ended first", 0, 256, EVENT(LOG_INFO, 128), ENDS, .values = {1}, RAISES(INFO),
+     .more_records = 1, .event = ninth_event},
+    {"event report, a Sanitize ended first, refused: log", 0, 256, EVENT(EVENT_LOGS, 128), ENDS, BAD_INPUT},
     {"event report, refused: length", 0, 256, EVENT(LOG_INFO, 127), .info_room = 8, BAD_LENGTH},
     {"event report, refused: log", 0, 256, EVENT(EVENT_LOGS, 128), BAD_INPUT},
     {"media report of a new line", 0, 255, MEDIA(FREE, 1, 1), .values = {1}, ONE_LINE_MORE},
@@ -287,6 +323,8 @@ static const struct row rows[] = {
      .values = {ENTRY / LINE + 127 * (GAP / LINE - 1), GAP / LINE - 1}, .more_entries = 128,
      .more_lines = ENTRY / LINE + 127 * (GAP / LINE - 1), .flag_set = true},
     {"media report of a new line, dropped", NONE, 256, MEDIA(FREE, 1, 1), .values = {0, 1}, .flag_set = true},
+    {"media report of a new line, a Sanitize ended first", 0, 255, MEDIA(FREE, 1, 1), ENDS, .values = {1}, ONE_LINE_MORE},
+    {"media report, a Sanitize ended first, refused: type", 0, 256, MEDIA(FREE, 1, 3), ENDS, BAD_INPUT},
     {"media report, refused: type", 0, 256, MEDIA(FREE, 1, 3), BAD_INPUT},
     {"media report, refused: no line", 0, 256, MEDIA(FREE, 0, 1), BAD_INPUT},
     {"media report, refused: unaligned", 0, 256, MEDIA(FREE + 1, 1, 1), BAD_INPUT},
@@ -294,6 +332,7 @@ static const struct row rows[] = {
     {"line test, Clean", 0, 256, TEST(FREE), .values = {KULDUVOST_CLEAN, 0}},
     {"line test, Damaged", 1, 256, TEST(ENTRY), .values = {KULDUVOST_DAMAGED, 1}},
     {"line test, Unknown", 0, 256, TEST(FREE), .flag_before = true, .values = {KULDUVOST_UNKNOWN, 0}},
+    {"line test, Disabled", 0, 256, TEST(ENTRY), .media = MEDIA_DISABLED, .values = {KULDUVOST_DISABLED, 0}},
     {"line test, refused: unaligned", 0, 256, TEST(FREE + 1), BAD_INPUT, .values = {KULDUVOST_UNKNOWN, 0}},
     {"line test, refused: outside", 0, 256, TEST(END), BAD_ADDRESS, .values = {KULDUVOST_UNKNOWN, 0}},
     {"event status", 0, 256, .call = event_status, .values = {1 << KULDUVOST_LOG_INFO | 1 << KULDUVOST_LOG_FAILURE, 2, 2}},
@@ -305,7 +344,7 @@ enum { ROWS = sizeof rows / sizeof *rows };
 /* ---- A device before and after the call */
 struct held {
     uint64_t entries, lines, records, overflow;
-    bool flag;
+    bool flag, disabled;
     uint8_t event[KULDUVOST_EVENT_RECORD_SIZE]; /* the last of log Info */
 };
 
@@ -355,6 +394,7 @@ static struct held held(void) {
         }
     } while ((reply[0] & 1) != 0);
     all.flag = (reply[0] & 2) != 0;
+    all.disabled = kulduvost_line_test(&device, 0).answer == KULDUVOST_DISABLED;
     return all;
 }
 
@@ -384,7 +424,7 @@ static void fill_log(uint8_t log, int records) {
 }
 
 /* The clock set; the entries; eight records in logs Info, with handles 1 to 8, or as many fewer as it has room for, and Failure, which has
- * dropped a ninth. For make, memory all zero. The label area as `label_before` has it. */
+ * dropped a ninth; a Sanitize started where the row has one. For make, memory all zero. The label area as `label_before` has it. */
 static void prepare(const struct row *row, int entries) {
     memset(&device, 0, sizeof device);
     for (size_t i = 0; i < sizeof area; i++) {
@@ -405,14 +445,19 @@ static void prepare(const struct row *row, int entries) {
     fill(entries, 1 + row->long_by);
     fill_log(KULDUVOST_LOG_INFO, KULDUVOST_EVENT_LOG_RECORDS - row->info_room);
     fill_log(KULDUVOST_LOG_FAILURE, KULDUVOST_EVENT_LOG_RECORDS + 1);
+    if (row->media != MEDIA_ENABLED) {
+        ask(KULDUVOST_SANITIZE, none, 0);
+    }
 }
 
 /* Whether the call answered, and device and label area hold after it, what the row says of so many entries. */
 static bool as_expected(const struct row *row, int entries) {
     uint64_t lines = (uint64_t)entries * (1 + row->long_by);
-    int records = row->call == make ? 0 : 2 * KULDUVOST_EVENT_LOG_RECORDS - row->info_room, overflow = row->call == make ? 0 : 1;
+    bool no_logs = row->call == make || row->media == WORK_DUE; /* none made before, or all emptied by the call */
+    int records = no_logs ? 0 : 2 * KULDUVOST_EVENT_LOG_RECORDS - row->info_room, overflow = no_logs ? 0 : 1;
+    bool disabled = row->media == MEDIA_DISABLED || row->code == KULDUVOST_STARTED;
     struct held after = held();
-    bool same = told.code == row->code && told.vector == row->vector && labels_as_expected(row);
+    bool same = told.code == row->code && told.vector == row->vector && labels_as_expected(row) && after.disabled == disabled;
     for (size_t i = 0; i < 3; i++) {
         same = same && told.values[i] == (row->values[i] == AS_HELD ? lines : row->values[i]);
     }

@@ -155,7 +155,19 @@ static void questions(struct tested *tested) {
     add(tested, kulduvost_damage_total(&tested->device));
 }
 
+/* Times are random: most Sanitizes are ended by one of the next few calls, and some are still running when the device goes to another
+ * thread. The labels are wiped, as the caller has to. */
+static void sanitize(struct tested *tested) {
+    const uint8_t payload[1] = {0};
+    command(tested, KULDUVOST_SANITIZE, payload, 0);
+    memset(tested->labels, 0, sizeof tested->labels);
+    questions(tested);
+}
+
 static void one_call(struct tested *tested) {
+    if (below(tested, 50) == 0) {
+        sanitize(tested);
+    }
     switch (below(tested, 13)) {
     case 0: poison_list(tested); break;
     case 1: event_command(tested); break;
