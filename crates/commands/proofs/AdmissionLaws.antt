@@ -7,9 +7,9 @@ use native.Mathlib.Decide.{ℕ-discrete}
 use lib.Dec.{leb, eqb}
 use borrow.Author.Tests.{le-leb, lt-leb, leb-true, eqb-true, ne-eqb, eq-eqb}
 use Rattle.labels.specs.Labels.{label-size}
-use Rattle.wire.specs.Returns.{unsupported, invalid-length, small-buffer, need}
+use Rattle.wire.specs.Returns.{started, unsupported, invalid-length, small-buffer, need}
 use Rattle.commands.specs.Numbers.{mailbox-size}
-use Rattle.wire.proofs.Laws.{need-fails, need-holds, need-zero}
+use Rattle.wire.proofs.Laws.{either, need-fails, need-holds, need-zero}
 use Rattle.commands.specs.Commands.{commands, known, fits, admission, while-disabled, blocked, first-code}
 
 -- the checks of the area and the others, of which the first that refuses decides
@@ -110,6 +110,33 @@ module _ (disabled : Bool) (op n size room : ℕ) where
       go : Dec (admission op n size room ≡ 0) → admission op n size room ≡ first-code disabled op n size room
       go (yes e) = e ∙ none disabled ∙ first-admitted e
       go (no f) = first-refused f
+
+-- none of these checks gives 0001h, which is Sanitize's own
+abbrev Other : ℕ → Type 0
+Other code = code ≡ started → ⊥
+
+pub first-not-started : (disabled : Bool) (op n size room : ℕ) → first-code disabled op n size room ≡ started → ⊥
+unfolding first-code admission while-disabled
+first-not-started disabled op n size room =
+    either Other (eqb (admission op n size room) 0) (stopped disabled) admitted
+  where
+    admitted : Other (admission op n size room)
+    admitted =
+        either Other (eqb size label-size)
+        (either Other (leb mailbox-size room)
+        (either Other (leb n mailbox-size)
+        (either Other (known commands op)
+        (either Other (fits commands op n) (λ e. omega (arith, e)) (λ e. omega (arith, e)))
+        (λ e. omega (arith, e)))
+        (λ e. omega (arith, e)))
+        (λ e. omega (arith, e)))
+        (λ e. omega (arith, e))
+
+    stopped : (b : Bool) → Other (blocked b op)
+    stopped true =
+        either Other (eqb op 0x4400) (λ e. omega (arith, e))
+        (either Other (eqb op 0x4301 || (eqb op 0x4302 || (eqb op 0x4102 || eqb op 0x4103))) (λ e. omega (arith, e)) (λ e. omega (arith, e)))
+    stopped false = λ e. omega (arith, e)
 
 -- the area's size before the other checks of a command, media's among them
 pub first-area : (disabled : Bool) (op n size room : ℕ) {lent others code : ℕ} → lent ≡ need (eqb size label-size) small-buffer 0 → others ≡ first-code disabled op n label-size room

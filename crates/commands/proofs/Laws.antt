@@ -6,8 +6,8 @@ pub use Rattle.commands.proofs.Replies.{no-bytes}
 -- The checks before a command's own: which of two numbers is given, and what holds where none is: the area's size, room for every reply, a payload of a length that the command takes. Past the
 -- first checks, at an opcode that is known, the length decides.
 pub use Rattle.commands.proofs.AdmissionLaws.{admission-first, admission-area, admission-at, admitted-area, admitted-room, admitted-fits, four-five, room-for}
--- The same with media disabled or not (document 02, W-207): which of the two numbers is given; what holds where none is; a command that media disabled allows is refused by the others alone.
-pub use Rattle.commands.proofs.AdmissionLaws.{first-code-by, first-zero, first-refused, first-admitted, first-allowed, first-area, first-sized}
+-- The same with media disabled or not (document 02, W-207): which of the two numbers is given; what holds where none is; a command that media disabled allows is refused by the others alone; none gives 0001h.
+pub use Rattle.commands.proofs.AdmissionLaws.{first-code-by, first-zero, first-refused, first-admitted, first-allowed, first-not-started, first-area, first-sized}
 -- An address that the checks of a line do not refuse is that of a line of the device; a range that they do not refuse ends on the device.
 pub use Rattle.commands.proofs.Addresses.{line-inside, range-ends}
 -- Set Event Interrupt Policy by its modes: with known ones it makes the settings, else it leaves them; a refusal leaves them. The modes of all bytes are known exactly where that of each is; five

@@ -18,16 +18,16 @@ refused-step d event-status r = refl
 refused-step d damage-total r = refl
 
 -- Where no Sanitize is due at its time, that is the one before.
+pub found-same : (d : DeviceState) (c : Call) → NothingDue d c → found-by d c ≡ d
+found-same d (command opcode payload time area room) e = ended-none d time e
+found-same d (event-report time log bytes) e = ended-none d time e
+found-same d (media-report time address lines kind) e = ended-none d time e
+found-same d (line-test address) e = refl
+found-same d event-status e = refl
+found-same d damage-total e = refl
+
 pub refused-same : (d : DeviceState) (c : Call) → NothingDue d c → Refused (step d c .code) → step d c .next ≡ d
-refused-same d c n r = refused-step d c r ∙ none c n
-  where
-    none : (c : Call) → NothingDue d c → found-by d c ≡ d
-    none (command opcode payload time area room) e = ended-none d time e
-    none (event-report time log bytes) e = ended-none d time e
-    none (media-report time address lines kind) e = ended-none d time e
-    none (line-test address) e = refl
-    none event-status e = refl
-    none damage-total e = refl
+refused-same d c n r = refused-step d c r ∙ found-same d c n
 
 -- Whatever the call and its arguments: where it is refused, it gives no reply and no vector, stores nothing and tells nothing of a line.
 pub refused-gives-nothing : (d : DeviceState) (c : Call) → Refused (step d c .code) → GivesNothing d c

@@ -29,7 +29,7 @@ use Rattle.mailbox.specs.Contracts.{Answered}
 use Rattle.mailbox.specs.declared.device.Device.{Device}
 use Rattle.mailbox.specs.declared.device.Answer.{Answer}
 use Rattle.poison.specs.Paper.{Paper, blank-paper}
-use Rattle.mailbox.proofs.Laws.{accepted-runs, allowed-runs, clear-events-admitted, ended-none, ended-due}
+use Rattle.mailbox.proofs.Laws.{accepted-runs, allowed-runs, clear-events-admitted, ended-none, end-empties}
 use Rattle.history.specs.Calls.{Call}
 use Rattle.history.specs.Drain.{reached, read, clear, then-clear}
 use Rattle.history.specs.Ran.{Ran, reply-in}
@@ -106,7 +106,7 @@ module _ (d : DeviceState) (k time : ℕ) (area : List ℕ) (room : ℕ) (accept
               ∙ Logs.clear-drains event-records (d .logs) k right (sound .valid) (sound .whole) (rw read-is at bit)
           by-end true over z =
               is (ended d t) z ∙ Logs.clear-none (ended d t .logs) (clear-read k (given .reply)) k
-              (ap (λ (x : DeviceState). log-at (x .logs) k .held) (ended-due d t over) ∙ Logs.emptied-none (d .logs) k)
+              (ap (λ (l : LogState). l .held) (end-empties d t over k))
 
 -- ---- from any device reached by calls on a new one
 sound-reached : (v p : ℕ) (calls : List Call) (k : ℕ) → k < 5 → Sound (log-at (reached v p calls .logs) k)

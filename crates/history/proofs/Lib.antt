@@ -18,3 +18,4 @@ pub mod Interrupts
 pub mod Reserved
 pub mod Labels
 pub mod Sanitizing
+pub mod Disabled

@@ -1,35 +1,37 @@
--- Sanitize over any call (document 02, W-207): no call but Clear Event Records and the end of a Sanitize takes a record from a log, no call lets a next handle go back, and the end empties every log. And the examples of
+-- Sanitize over any call (document 02, W-207): no call but Clear Event Records and the end of a Sanitize takes a record from a log, no call lets a next handle go back, and none moves media that is disabled before its work is due. And the examples of
 -- `specs/Sanitizing.antt` hold of the definitions, by computation. Assumes nothing.
 use mathlib.Core.Path.{_≡_, refl, sym, ap, _∙_, subst}
 use mathlib.Core.Bool.{Bool, true, false, cond}
 use mathlib.Core.Logic.{_⊎_, inl, inr}
 use mathlib.Core.List.{List, [], map}
-use Prim.Native.Nat.{ℕ}
+use Prim.Native.Nat.{ℕ, _+_}
 use borrow.Author.Tests.{eqb-true}
 use lib.Dec.{eqb}
 use lib.ListN.{length}
+use Rattle.wire.specs.Returns.{started}
 use Rattle.wire.proofs.Laws.{either}
 use Rattle.events.specs.Log.{LogState, log-at}
 use Rattle.events.specs.Report as Event
 use Rattle.events.specs.Clear as Clear
 use Rattle.events.specs.Onward.{StaysHeld, NextGoesOn}
-use Rattle.events.proofs.Laws.{stays-itself, stays-reported, next-reported, next-cleared, emptied-next, emptied-none, each-reported, each-cleared}
+use Rattle.events.proofs.Laws.{stays-itself, stays-reported, next-reported, next-cleared, emptied-at, each-reported, each-cleared}
 use Rattle.commands.specs.Commands.{first-code}
-use Rattle.commands.specs.Media.{due}
+use Rattle.commands.specs.Media.{due, sanitize}
 use Rattle.commands.specs.PoisonCommands.{inject-adds}
-use Rattle.mailbox.specs.State.{DeviceState, lines-of}
+use Rattle.mailbox.specs.State.{DeviceState, lines-of, with-media}
 use Rattle.mailbox.specs.Ending.{logs-left, ended}
-use Rattle.mailbox.specs.Outcome.{Outcome}
+use Rattle.mailbox.specs.Outcome.{Outcome, changes}
 use Rattle.mailbox.specs.EventCommands.{clear-event-records}
 use Rattle.mailbox.specs.Mailbox.{run-command, inject, answer}
 use Rattle.mailbox.specs.DeviceCalls as Device
-use Rattle.mailbox.proofs.Laws.{injection-list, logs-told, ended-none, ended-due}
+use Rattle.mailbox.proofs.Laws.{injection-list, logs-told, disabled-stays}
 use Rattle.history.specs.Calls.{Call, command, event-report, media-report, line-test, event-status, damage-total, step, after}
 use Rattle.history.specs.Cases.{given-of, stated-of}
 use Rattle.history.specs.Interrupts.{enabled-unit}
 use Rattle.history.specs.Refusals.{found-by, NothingDue}
 use Rattle.history.specs.Sanitizing.{NoClear, running, running-calls, sanitize-cases, row-cases}
 use Rattle.history.proofs.Computing.{rules}
+use Rattle.history.proofs.Demand1.{found-same}
 
 -- ---- what each call leaves of each log, on the device that it finds. P holds between a log and itself, and between a log and what a report makes of it
 module _ (P : LogState → LogState → Type 0) (itself : (s : LogState) → P s s) (one : (s : LogState) (r : List ℕ) (t : ℕ) → P s (Event.reported s r t)) where
@@ -51,44 +53,50 @@ module _ (P : LogState → LogState → Type 0) (itself : (s : LogState) → P s
   abbrev Unless : ℕ → Type 0
   Unless op = (op ≡ 0x0101 → ⊥) ⊎ ((s : LogState) (p : List ℕ) → P s (Clear.clear-log s p .log))
 
-  record Leaves (d : DeviceState) (o : Outcome) : Type 0 where
+  -- what it leaves of the logs; and of media, where it is no Sanitize
+  record Leaves (d : DeviceState) (op : ℕ) (o : Outcome) : Type 0 where
     leaves : Each d (o .next)
+    media : (op ≡ 0x4400 → ⊥) → o .next .media ≡ d .media
 
-  run-each : (d : DeviceState) (op : ℕ) (p : List ℕ) (time : ℕ) (area : List ℕ) → Unless op → Leaves d (run-command d op p time area)
+  run-each : (d : DeviceState) (op : ℕ) (p : List ℕ) (time : ℕ) (area : List ℕ) → Unless op → Leaves d op (run-command d op p time area)
   unfolding run-command clear-event-records
   run-each d op p time area unless =
-      either (Leaves d) (eqb op 0x0100) (same _ refl)
+      either (Leaves d op) (eqb op 0x0100) (same _ refl refl)
       (cleared (eqb op 0x0101) refl _
-      (either (Leaves d) (eqb op 0x0102) (same _ refl)
-      (either (Leaves d) (eqb op 0x0103) (same _ refl)
-      (either (Leaves d) (eqb op 0x0300) (same _ refl)
-      (either (Leaves d) (eqb op 0x0301) (same _ refl)
-      (either (Leaves d) (eqb op 0x0400) (same _ refl)
-      (either (Leaves d) (eqb op 0x0401) (same _ refl)
-      (either (Leaves d) (eqb op 0x4000) (same _ refl)
-      (either (Leaves d) (eqb op 0x4102) (same _ refl)
-      (either (Leaves d) (eqb op 0x4103) (same _ refl)
-      (either (Leaves d) (eqb op 0x4300) (same _ refl)
-      (either (Leaves d) (eqb op 0x4301) (record { leaves = injection-each d p time })
-      (either (Leaves d) (eqb op 0x4302) (same _ refl)
-      (either (Leaves d) (eqb op 0x4400) (same _ refl)
-      (same _ refl)))))))))))))))
+      (either (Leaves d op) (eqb op 0x0102) (same _ refl refl)
+      (either (Leaves d op) (eqb op 0x0103) (same _ refl refl)
+      (either (Leaves d op) (eqb op 0x0300) (same _ refl refl)
+      (either (Leaves d op) (eqb op 0x0301) (same _ refl refl)
+      (either (Leaves d op) (eqb op 0x0400) (same _ refl refl)
+      (either (Leaves d op) (eqb op 0x0401) (same _ refl refl)
+      (either (Leaves d op) (eqb op 0x4000) (same _ refl refl)
+      (either (Leaves d op) (eqb op 0x4102) (same _ refl refl)
+      (either (Leaves d op) (eqb op 0x4103) (same _ refl refl)
+      (either (Leaves d op) (eqb op 0x4300) (same _ refl refl)
+      (either (Leaves d op) (eqb op 0x4301) (record { leaves = injection-each d p time; media = λ f. injection-list d p time .media })
+      (either (Leaves d op) (eqb op 0x4302) (same _ refl refl)
+      (starting (eqb op 0x4400) refl
+      (same _ refl refl)))))))))))))))
     where
-      same : (o : Outcome) → o .next .logs ≡ d .logs → Leaves d o
-      same o e = record { leaves = each-same d (o .next) e }
+      same : (o : Outcome) → o .next .logs ≡ d .logs → o .next .media ≡ d .media → Leaves d op o
+      same o e m = record { leaves = each-same d (o .next) e; media = λ f. m }
 
-      cleared : (b : Bool) → eqb op 0x0101 ≡ b → (rest : Outcome) → Leaves d rest → Leaves d (cond b (clear-event-records d p) rest)
+      starting : (b : Bool) → eqb op 0x4400 ≡ b → {rest : Outcome} → Leaves d op rest → Leaves d op (cond b (changes started (with-media d (sanitize (d .volatile + d .persistent) time))) rest)
+      starting false e r = r
+      starting true e r = record { leaves = each-same d _ refl; media = λ f. absurd (f (eqb-true op 0x4400 e)) }
+
+      cleared : (b : Bool) → eqb op 0x0101 ≡ b → (rest : Outcome) → Leaves d op rest → Leaves d op (cond b (clear-event-records d p) rest)
       cleared false e rest r = r
       cleared true e rest r = by unless
         where
-          by : Unless op → Leaves d (clear-event-records d p)
+          by : Unless op → Leaves d op (clear-event-records d p)
           by (inl f) = absurd (f (eqb-true op 0x0101 e))
-          by (inr clear) = record { leaves = record { each = each-cleared P itself clear (d .logs) p } }
+          by (inr clear) = record { leaves = record { each = each-cleared P itself clear (d .logs) p }; media = λ f. refl }
 
   command-each : (d : DeviceState) (op : ℕ) (p : List ℕ) (time : ℕ) (area : List ℕ) (room : ℕ) → Unless op → Each d (answer d op p time area room .next)
   unfolding answer
   command-each d op p time area room unless =
-      either (Leaves d) (eqb (first-code (d .media .disabled) op (length p) (length area) room) 0) (run-each d op p time area unless) (record { leaves = each-same d d refl }) .leaves
+      either (Leaves d op) (eqb (first-code (d .media .disabled) op (length p) (length area) room) 0) (run-each d op p time area unless) (record { leaves = each-same d d refl; media = λ f. refl }) .leaves
 
   event-each : (d : DeviceState) (time log : ℕ) (bytes : List ℕ) → Each d (Device.event-answer d time log bytes .next)
   unfolding Device.event-answer
@@ -116,19 +124,7 @@ module _ (P : LogState → LogState → Type 0) (itself : (s : LogState) → P s
 -- No call but Clear Event Records takes a record from a log, where no Sanitize is due at its time: every record stays in its place.
 pub records-stay : (d : DeviceState) (c : Call) → NothingDue d c → NoClear c → (k : ℕ) → StaysHeld (log-at (d .logs) k) (log-at (step d c .next .logs) k)
 records-stay d c idle spared k =
-    subst (λ (e : DeviceState). StaysHeld (log-at (e .logs) k) (log-at (step d c .next .logs) k)) (found d c idle) (call-each StaysHeld stays-itself stays-reported d c (inl spared) .each k)
-  where
-    found : (d : DeviceState) (c : Call) → NothingDue d c → found-by d c ≡ d
-    found d (command opcode payload time area room) e = ended-none d time e
-    found d (event-report time log bytes) e = ended-none d time e
-    found d (media-report time address lines kind) e = ended-none d time e
-    found d (line-test address) e = refl
-    found d event-status e = refl
-    found d damage-total e = refl
-
--- The end of a Sanitize empties every log: no record, no overflow count.
-pub end-empties : (d : DeviceState) (time : ℕ) → due (d .media) time ≡ true → (k : ℕ) → log-at (ended d time .logs) k .held ≡ []
-end-empties d time e k = ap (λ (x : DeviceState). log-at (x .logs) k .held) (ended-due d time e) ∙ emptied-none (d .logs) k
+    subst (λ (e : DeviceState). StaysHeld (log-at (e .logs) k) (log-at (step d c .next .logs) k)) (found-same d c idle) (call-each StaysHeld stays-itself stays-reported d c (inl spared) .each k)
 
 -- No call lets a log's next handle go back, whether it ends a Sanitize, clears records or is refused: it is as it was, or the one after it.
 pub next-goes-on : (d : DeviceState) (c : Call) (k : ℕ) → NextGoesOn (log-at (d .logs) k) (log-at (step d c .next .logs) k)
@@ -137,7 +133,7 @@ next-goes-on d c k =
     (call-each NextGoesOn (λ s. inl refl) next-reported d c (inr next-cleared) .each k)
   where
     by-end : (d : DeviceState) (b : Bool) → log-at (logs-left b (d .logs)) k .next ≡ log-at (d .logs) k .next
-    by-end d true = emptied-next (d .logs) k
+    by-end d true = ap (λ (l : LogState). l .next) (emptied-at (d .logs) k)
     by-end d false = refl
 
     found : (d : DeviceState) (c : Call) → log-at (found-by d c .logs) k .next ≡ log-at (d .logs) k .next
@@ -147,6 +143,24 @@ next-goes-on d c k =
     found d (line-test address) = refl
     found d event-status = refl
     found d damage-total = refl
+
+-- Media that is disabled when a call comes, and not due to be enabled by it, is left as it was: a Sanitize is refused, and nothing else moves it.
+pub media-stays : (d : DeviceState) (c : Call) → NothingDue d c → d .media .disabled ≡ true → step d c .next .media ≡ d .media
+unfolding step Device.media-answer Device.event-answer
+media-stays d c idle off = subst (λ (e : DeviceState). e .media .disabled ≡ true → step d c .next .media ≡ e .media) (found-same d c idle) (stays d c) off
+  where
+    no-sanitize : (e : DeviceState) (op : ℕ) (p : List ℕ) (time : ℕ) (area : List ℕ) → (op ≡ 0x4400 → ⊥) → run-command e op p time area .next .media ≡ e .media
+    no-sanitize e op p time area = run-each NextGoesOn (λ s. inl refl) next-reported e op p time area (inr next-cleared) .media
+
+    -- from the device that it finds
+    stays : (d : DeviceState) (c : Call) → found-by d c .media .disabled ≡ true → step d c .next .media ≡ found-by d c .media
+    stays d (command opcode payload time area room) o = disabled-stays (ended d time) opcode payload time area room o (no-sanitize (ended d time) opcode payload time area)
+    stays d (event-report time log bytes) o = refl
+    stays d (media-report time address lines kind) o =
+        either (λ (m : Device.MediaOutcome). m .next .media ≡ ended d time .media) (eqb (Device.media-code (lines-of (ended d time)) address lines kind) 0) refl refl
+    stays d (line-test address) o = refl
+    stays d event-status o = refl
+    stays d damage-total o = refl
 
 -- ---- the examples
 pub sanitize-cases-hold : map given-of sanitize-cases ≡ map stated-of sanitize-cases

@@ -1,5 +1,5 @@
--- Sanitize over any call (document 02, W-207): which calls may take a record from a log. And examples by number: one table of what the definitions give and what the document says. Assumes nothing.
-use Prim.Native.Nat.{ℕ, _+_, _-_, _*_, _^_}
+-- Sanitize over any call (document 02, W-207): which calls may take a record from a log, and which come before a work is due to end. And examples by number: one table of what the definitions give and what the document says. Assumes nothing.
+use Prim.Native.Nat.{ℕ, _+_, _-_, _*_, _^_, _≤_, _<_}
 use mathlib.Core.Path.{_≡_}
 use mathlib.Core.Bool.{true, false, cond}
 use mathlib.Core.List.{List, [], _∷_, _++_, map}
@@ -7,15 +7,21 @@ use lib.ListN.{length, set, replicate}
 use Rattle.wire.specs.Wire.{le}
 use Rattle.poison.specs.Runs.{run}
 use Rattle.poison.specs.State.{entry}
+use Rattle.events.specs.Log.{log-at}
 use Rattle.events.specs.Report.{stamped}
+use Rattle.events.specs.Emptied.{emptied}
 use Rattle.labels.specs.Labels.{zero-area}
 use Rattle.commands.specs.EffectsLog.{effects-log-id}
+use Rattle.commands.specs.Media.{enabled}
 use Rattle.mailbox.specs.State.{DeviceState, with-logs, with-poison, with-media}
 use Rattle.mailbox.specs.Mailbox.{outcome}
 use Rattle.mailbox.specs.DeviceCalls as Device
+use Rattle.mailbox.specs.declared.device.Device.{Device}
 use Rattle.history.specs.Calls.{Call, command, event-report, media-report, line-test, event-status, damage-total, step, after}
 use Rattle.history.specs.Cases.{new-unit, handles-of, told, Case, case}
 use Rattle.history.specs.Interrupts.{enabled-unit}
+use Rattle.history.specs.Refusals.{found-by}
+use Rattle.history.specs.Ran.{Steps}
 
 -- a call is no Clear Event Records
 abbrev pub NoClear : Call → Type 0
@@ -25,6 +31,39 @@ NoClear (media-report time address lines kind) = Unit {0}
 NoClear (line-test address) = Unit {0}
 NoClear event-status = Unit {0}
 NoClear damage-total = Unit {0}
+
+-- a call comes before a time: its own is earlier, or it carries none
+abbrev pub Before : ℕ → Call → Type 0
+Before end (command opcode payload time area room) = time < end
+Before end (event-report time log bytes) = time < end
+Before end (media-report time address lines kind) = time < end
+Before end (line-test address) = Unit {0}
+Before end event-status = Unit {0}
+Before end damage-total = Unit {0}
+
+-- each call of a list
+abbrev pub AllBefore : ℕ → List Call → Type 0
+AllBefore end [] = Unit {0}
+AllBefore end (c ∷ cs) = Before end c × AllBefore end cs
+
+-- a call carries a time, and that is so late or later
+abbrev pub From : ℕ → Call → Type 0
+From end (command opcode payload time area room) = end ≤ time
+From end (event-report time log bytes) = end ≤ time
+From end (media-report time address lines kind) = end ≤ time
+From end (line-test address) = ⊥
+From end event-status = ⊥
+From end damage-total = ⊥
+
+-- a call finds the work ended: media enabled, and every log emptied, its next handle kept
+pub record FindsEnded (d : DeviceState) (c : Call) : Type 0 where
+  pub media : found-by d c .media ≡ enabled
+  pub logs : (k : ℕ) → log-at (found-by d c .logs) k ≡ emptied (log-at (d .logs) k)
+
+-- calls of the code lead from device d to device e, and each comes before a time
+pub data Led (end : ℕ) (d : Device) : Device → Type 0 where
+  none : (e : Device) → e ≡ d → Led end d e
+  more : (e f : Device) → Led end d e → (c : Call) (code : ℕ) → Steps e f c code → Before end c → Led end d f
 
 -- ---- the examples
 -- a second in nanoseconds

@@ -5,7 +5,8 @@ use mathlib.Core.Bool.{true, false, true≢false}
 use mathlib.Core.List.{List, map}
 use Prim.Native.Nat.{ℕ}
 use Rattle.events.specs.Emptied.{emptied, EmptiesAll}
-use Rattle.events.specs.Log.{LogState}
+use Rattle.events.specs.Log.{LogState, log-at}
+use Rattle.events.proofs.Laws.{emptied-at}
 use Rattle.events.specs.declared.log.Log.{Log}
 use Rattle.commands.specs.Media.{enabled, due}
 use Rattle.commands.specs.declared.media.MediaState.{MediaState}
@@ -27,6 +28,10 @@ ended-none d time e = ap (found d) e
 -- where it is: five logs emptied, and media enabled
 pub ended-due : (d : DeviceState) (time : ℕ) → due (d .media) time ≡ true → ended d time ≡ with-media (with-logs d (map emptied (d .logs))) enabled
 ended-due d time e = ap (found d) e
+
+-- each log of it, also past the fifth: no record, no overflow count and times; the next handle as it was
+pub end-empties : (d : DeviceState) (time : ℕ) → due (d .media) time ≡ true → (k : ℕ) → log-at (ended d time .logs) k ≡ emptied (log-at (d .logs) k)
+end-empties d time e k = ap (λ (x : DeviceState). log-at (x .logs) k) (ended-due d time e) ∙ emptied-at (d .logs) k
 
 module _ (d : Device) (time : ℕ) (v : ValidDevice d) where
   pub ends-none : due (d .media) time ≡ false → Ends d time d

@@ -10,9 +10,9 @@ pub use Rattle.mailbox.proofs.Demand1.{refusal, event-refusal, media-re
 -- A number equal to a refused one is refused.
 pub use Rattle.mailbox.proofs.Demand1.{refused-too}
 pub use Rattle.mailbox.proofs.Demand1.{refusal-unaltered, event-unaltered, media-unaltered, line-unknown, make-one-unit}
--- W-207, the end of a Sanitize: where nothing is due the device is as it was; where it is, five logs are emptied and media is enabled; so of a device of the code. The answer on the device that a call
+-- W-207, the end of a Sanitize: where nothing is due the device is as it was; where it is, five logs are emptied, each by itself, and media is enabled; so of a device of the code. The answer on the device that a call
 -- finds is the call's.
-pub use Rattle.mailbox.proofs.Endings.{ended-none, ended-due, ends-none, ends-due, after-command, after-event, after-media}
+pub use Rattle.mailbox.proofs.Endings.{ended-none, ended-due, end-empties, ends-none, ends-due, after-command, after-event, after-media}
 -- A command that is answered 0000h, or that the checks before its own let through, is the command of its opcode; Clear Event Records with a payload of 6 to 2,048
 -- bytes and room for every reply is let through.
 pub use Rattle.mailbox.proofs.Accepted.{admitted-runs, allowed-runs, accepted-runs, clear-events-admitted}
@@ -58,9 +58,9 @@ pub use Rattle.mailbox.proofs.Labels.{past-set-refused, reserved-set-re
 -- W-206, two commands on any devices at any times: after a Set LSA that is answered Success, where nobody writes the area between, a Get LSA of the same range that is answered Success gives the data
 -- back, and one of a range apart from it gives what it gave before the Set.
 pub use Rattle.mailbox.proofs.Labels.{set-then-get, set-then-apart}
--- W-207, in words: a Sanitize past the length check is 0001h and disables media where none runs, and 0006h while one does; while media is disabled Inject Poison, Clear Poison, Get LSA and Set LSA past theirs are
--- 0007h, and no line is answered Clean.
-pub use Rattle.mailbox.proofs.Sanitizing.{sanitize-starts, sanitize-busy, disabled-refused, disabled-not-clean}
+-- W-207, in words: a Sanitize past the length check is 0001h and disables media where none runs, and 0006h while one does, and one that is answered 0001h did so; while media is disabled Inject Poison, Clear Poison, Get LSA and Set LSA past theirs are
+-- 0007h, media stays as it is whatever the command, and no line is answered Clean.
+pub use Rattle.mailbox.proofs.Sanitizing.{sanitize-starts, sanitize-started, sanitize-busy, disabled-refused, disabled-stays, disabled-not-clean}
 -- W-207, when: a Sanitize is due from the beginning plus the duration on and not before; its end comes once, after which nothing is due at any time, and nothing is due at the time of a call on the device that it
 -- finds.
 pub use Rattle.mailbox.proofs.Sanitizing.{due-from, not-due-before, ended-once, found-not-due}

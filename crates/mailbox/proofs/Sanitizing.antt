@@ -1,18 +1,19 @@
 -- Sanitize in words (document 02, W-207), of the definitions: its start; while media is disabled no line is answered Clean and the commands on memory are refused; the end comes once, empties the logs and lets the next
 -- handles go on. Assumes nothing.
-use mathlib.Core.Path.{_≡_, refl, sym, ap, _∙_}
+use mathlib.Core.Path.{_≡_, refl, sym, ap, ap₂, _∙_}
 use mathlib.Core.Bool.{Bool, true, false, cond, false≢true}
 use mathlib.Core.List.{List}
 use Prim.Native.Nat.{ℕ, _+_, _≤_, _<_}
 use native.Mathlib.Omega.{arith}
+use native.Mathlib.Decide.{ℕ-discrete}
 use lib.Dec.{eqb}
 use lib.ListN.{length}
-use borrow.Author.Tests.{le-leb, lt-leb, ne-eqb}
+use borrow.Author.Tests.{le-leb, lt-leb, ne-eqb, eq-eqb}
 use Rattle.wire.specs.Returns.{success, started, busy, media-disabled, need}
 use Rattle.commands.specs.Commands.{admission, while-disabled, blocked, first-code}
 use Rattle.commands.specs.Media.{duration, sanitize, due}
 use Rattle.commands.specs.PoisonCommands.{line-of, line-code}
-use Rattle.commands.proofs.Laws.{first-admitted}
+use Rattle.commands.proofs.Laws.{first-admitted, first-zero, first-not-started}
 use Rattle.mailbox.specs.State.{DeviceState, lines-of, with-media}
 use Rattle.mailbox.specs.Ending.{ended}
 use Rattle.mailbox.specs.Outcome.{changes, refused}
@@ -46,10 +47,36 @@ module _ (d : DeviceState) (p : List ℕ) (time : ℕ) (area : List ℕ) (room :
   unfolding while-disabled
   sanitize-busy off = stopped d 0x4400 p time area room busy off refl (λ e. omega (arith, e)) z
 
+-- one that is answered 0001h is the first of these: no check gives that number
+pub sanitize-started : (d : DeviceState) (p : List ℕ) (time : ℕ) (area : List ℕ) (room : ℕ) → answer d 0x4400 p time area room .code ≡ started
+    → answer d 0x4400 p time area room ≡ changes started (with-media d (sanitize (d .volatile + d .persistent) time))
+unfolding answer run-command
+sanitize-started d p time area room s = go (ℕ-discrete (first-code (d .media .disabled) 0x4400 (length p) (length area) room) 0)
+  where
+    go : Dec (first-code (d .media .disabled) 0x4400 (length p) (length area) room ≡ 0) → answer d 0x4400 p time area room ≡ changes started (with-media d (sanitize (d .volatile + d .persistent) time))
+    go (yes z) = admitted-runs d 0x4400 p time area room z
+    go (no f) = absurd (first-not-started (d .media .disabled) 0x4400 (length p) (length area) room
+        (ap (λ (b : Bool). need b (refused (first-code (d .media .disabled) 0x4400 (length p) (length area) room) d) (run-command d 0x4400 p time area) .code) (sym (ne-eqb _ 0 f)) ∙ s))
+
 -- ---- while media is disabled: Inject Poison, Clear Poison, Get LSA and Set LSA are 0007h directly after the length check, whatever their address, range or reserved bytes
 pub disabled-refused : (d : DeviceState) (op : ℕ) (p : List ℕ) (time : ℕ) (area : List ℕ) (room : ℕ) → d .media .disabled ≡ true → while-disabled op ≡ media-disabled
     → admission op (length p) (length area) room ≡ 0 → answer d op p time area room ≡ refused media-disabled d
 disabled-refused d op p time area room off stops z = stopped d op p time area room media-disabled off stops (λ e. omega (arith, e)) z
+
+-- media stays disabled, since when and for how long it was, whatever the command: the one that would move it is refused
+pub disabled-stays : (d : DeviceState) (op : ℕ) (p : List ℕ) (time : ℕ) (area : List ℕ) (room : ℕ) → d .media .disabled ≡ true
+    → ((op ≡ 0x4400 → ⊥) → run-command d op p time area .next .media ≡ d .media) → answer d op p time area room .next .media ≡ d .media
+unfolding answer while-disabled
+disabled-stays d op p time area room off other = go (ℕ-discrete (first-code (d .media .disabled) op (length p) (length area) room) 0)
+  where
+    first : ℕ
+    first = first-code (d .media .disabled) op (length p) (length area) room
+
+    go : Dec (first ≡ 0) → need (eqb first success) (refused first d) (run-command d op p time area) .next .media ≡ d .media
+    go (no f) = ap (λ (b : Bool). need b (refused first d) (run-command d op p time area) .next .media) (ne-eqb first 0 f)
+    go (yes z) =
+        ap (λ (b : Bool). need b (refused first d) (run-command d op p time area) .next .media) (eq-eqb first 0 z)
+        ∙ other (λ e. omega (arith, sym (ap₂ blocked off e) ∙ first-zero (d .media .disabled) op (length p) (length area) room z .1))
 
 -- no line is answered Clean, whatever the list
 pub disabled-not-clean : (d : DeviceState) (address : ℕ) → d .media .disabled ≡ true → line-test d address .number ≡ 0 → ⊥

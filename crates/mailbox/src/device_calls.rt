@@ -85,7 +85,7 @@ impl Device {
     }
 
     // The same where no Sanitize is left to end.
-    fn media_answer(self, time: u64, address: u64, lines: u32, kind: u8) -> MediaAnswer
+    fn media_answer(mut self, time: u64, address: u64, lines: u32, kind: u8) -> MediaAnswer
         requires { ⌜ ValidDevice self ⌝ }
         ensures { λ r. ⌜ MediaDone (media-answer (state-of self) time address lines kind) self r ⌝ }
     {
@@ -102,13 +102,12 @@ impl Device {
             kind,
         );
         let next = parts.list;
-        let mut after = self; // stored in `self` itself, the list would have the compiled code copy the five logs too
-        after.poison = next;
+        self.poison = next;
         MediaAnswer {
             code: parts.code,
             stored: parts.stored,
             dropped: parts.dropped,
-            device: after,
+            device: self,
         }
     }
 
