@@ -1,11 +1,10 @@
 -- From the start of a Sanitize to its end (document 02, W-207), over every list of calls: until a call comes whose time is at least the duration past the beginning no line is answered Clean, whatever the calls and their order;
 -- that call finds media enabled and every log emptied. Assumes nothing.
-use mathlib.Core.Path.{_≡_, refl, sym, ap, _∙_, subst}
-use mathlib.Core.Bool.{Bool, true, false}
+use mathlib.Core.Path.{_≡_, sym, ap, _∙_}
+use mathlib.Core.Bool.{true}
 use mathlib.Core.List.{List, [], _∷_}
 use Prim.Native.Nat.{ℕ, _+_, _≤_}
 use Rattle.wire.specs.Returns.{started}
-use Rattle.events.specs.Log.{log-at}
 use Rattle.events.specs.Emptied.{emptied}
 use Rattle.commands.specs.Media.{enabled, duration, sanitize, due}
 use Rattle.commands.specs.declared.media.MediaState.{MediaState}

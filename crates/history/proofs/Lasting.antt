@@ -28,15 +28,14 @@ use Rattle.commands.specs.declared.media.MediaState.{MediaState}
 use Rattle.commands.specs.Media.{due}
 use Rattle.events.specs.Emptied.{emptied}
 use Rattle.mailbox.specs.Outcome.{Outcome}
-use Rattle.commands.specs.Commands.{first-code}
 use Rattle.commands.specs.declared.clock.Clock.{Clock}
 use Rattle.commands.specs.Clock.{device-time}
 use Rattle.commands.specs.Policy.{set-interrupt-policy}
 use Rattle.mailbox.specs.EventCommands.{clear-event-records}
 use Rattle.commands.specs.PoisonCommands.{line-of, line-code, inject-poison, inject-adds, injection-record, clear-poison}
-use Rattle.mailbox.specs.Mailbox.{run-command, inject, answer, outcome}
+use Rattle.mailbox.specs.Mailbox.{inject, answer, outcome}
 use Rattle.mailbox.specs.DeviceCalls as Device
-use Rattle.mailbox.proofs.Laws.{line-inside, media-zero, five-settings}
+use Rattle.mailbox.proofs.Laws.{Moved, nothing, one-log, settings, the-clock, list-and-log, the-list, the-media, answer-moves, line-inside, media-zero, five-settings}
 use Rattle.wire.proofs.Laws.{and-parts, either}
 use Rattle.history.specs.Calls.{Call, command, event-report, media-report, line-test, event-status, damage-total, step, after}
 
@@ -254,9 +253,6 @@ module _ {P : LogState → Type 0} (lasting : Lasting P) where
     itself-kept : Kept s
     itself-kept = record { holds = h; widths = λ w. w }
 
-    stays : (o : Outcome) → o .next ≡ s → Leaves o
-    stays o e = record { kept = rw e itself-kept }
-
     -- the logs after an event report, whatever its record
     told-keeps : (time log : ℕ) (bytes : List ℕ) (k : ℕ) → k < 5 → P (log-at (Event.event-report (s .logs) log bytes (device-time (s .clock) time) .logs) k)
     told-keeps time log bytes k = report-keeps lasting (s .logs) (h .logs) log bytes (device-time (s .clock) time) k (time-small (s .clock) time)
@@ -271,29 +267,18 @@ module _ {P : LogState → Type 0} (lasting : Lasting P) where
         (record { kept = list-kept _ follows })
 
     -- after a command
-    run-leaves : (op : ℕ) (p : List ℕ) (time : ℕ) (area : List ℕ) → Leaves (run-command s op p time area)
-    unfolding run-command clear-event-records
-    run-leaves op p time area =
-        either Leaves (eqb op 0x0100) (stays _ refl)
-        (either Leaves (eqb op 0x0101) (record { kept = logs-kept _ (clear-keeps lasting (s .logs) (h .logs) p) })
-        (either Leaves (eqb op 0x0102) (stays _ refl)
-        (either Leaves (eqb op 0x0103) (record { kept = policy-kept p })
-        (either Leaves (eqb op 0x0300) (stays _ refl)
-        (either Leaves (eqb op 0x0301) (record { kept = clock-kept _ })
-        (either Leaves (eqb op 0x0400) (stays _ refl)
-        (either Leaves (eqb op 0x0401) (stays _ refl)
-        (either Leaves (eqb op 0x4000) (stays _ refl)
-        (either Leaves (eqb op 0x4102) (stays _ refl)
-        (either Leaves (eqb op 0x4103) (stays _ refl)
-        (either Leaves (eqb op 0x4300) (stays _ refl)
-        (either Leaves (eqb op 0x4301) (inject-leaves p time)
-        (either Leaves (eqb op 0x4302) (record { kept = list-kept _ (cut-follows (lines-of s) (s .poison) (h .entries) p _ (time-small (s .clock) time)) })
-        (either Leaves (eqb op 0x4400) (record { kept = media-kept _ })
-        (stays _ refl)))))))))))))))
-
     command-kept : (op : ℕ) (p : List ℕ) (time : ℕ) (area : List ℕ) (room : ℕ) → Kept (answer s op p time area room .next)
-    unfolding answer
-    command-kept op p time area room = either Leaves (eqb (first-code (s .media .disabled) op (length p) (length area) room) 0) (run-leaves op p time area) (stays _ refl) .kept
+    unfolding clear-event-records
+    command-kept op p time area room = keeps-all (answer-moves s op p time area room)
+      where
+        keeps-all : {o : Outcome} → Moved s op p time o → Kept (o .next)
+        keeps-all (nothing r is quiet) = rw is itself-kept
+        keeps-all (one-log e is) = rw is (logs-kept _ (clear-keeps lasting (s .logs) (h .logs) p))
+        keeps-all (settings e is) = rw is (policy-kept p)
+        keeps-all (the-clock e c is) = rw is (clock-kept _)
+        keeps-all (list-and-log e is) = rw is (inject-leaves p time .kept)
+        keeps-all (the-list e is) = rw is (list-kept _ (cut-follows (lines-of s) (s .poison) (h .entries) p _ (time-small (s .clock) time)))
+        keeps-all (the-media e m is) = rw is (media-kept _)
 
     -- after a report
     event-kept : (time log : ℕ) (bytes : List ℕ) → Kept (Device.event-answer s time log bytes .next)

@@ -1,30 +1,26 @@
 -- Sanitize over any call (document 02, W-207): no call but Clear Event Records and the end of a Sanitize takes a record from a log, no call lets a next handle go back, and none moves media that is disabled before its work is due. And the examples of
 -- `specs/Sanitizing.antt` hold of the definitions, by computation. Assumes nothing.
-use mathlib.Core.Path.{_≡_, refl, sym, ap, _∙_, subst}
+use mathlib.Core.Path.{_≡_, refl, sym, ap, subst}
 use mathlib.Core.Bool.{Bool, true, false, cond}
 use mathlib.Core.Logic.{_⊎_, inl, inr}
-use mathlib.Core.List.{List, [], map}
-use Prim.Native.Nat.{ℕ, _+_}
-use borrow.Author.Tests.{eqb-true}
+use mathlib.Core.List.{List, map}
+use Prim.Native.Nat.{ℕ}
 use lib.Dec.{eqb}
-use lib.ListN.{length}
-use Rattle.wire.specs.Returns.{started}
 use Rattle.wire.proofs.Laws.{either}
 use Rattle.events.specs.Log.{LogState, log-at}
 use Rattle.events.specs.Report as Event
 use Rattle.events.specs.Clear as Clear
 use Rattle.events.specs.Onward.{StaysHeld, NextGoesOn}
 use Rattle.events.proofs.Laws.{stays-itself, stays-reported, next-reported, next-cleared, emptied-at, each-reported, each-cleared}
-use Rattle.commands.specs.Commands.{first-code}
-use Rattle.commands.specs.Media.{due, sanitize}
+use Rattle.commands.specs.Media.{due}
 use Rattle.commands.specs.PoisonCommands.{inject-adds}
-use Rattle.mailbox.specs.State.{DeviceState, lines-of, with-media}
+use Rattle.mailbox.specs.State.{DeviceState, lines-of}
 use Rattle.mailbox.specs.Ending.{logs-left, ended}
-use Rattle.mailbox.specs.Outcome.{Outcome, changes}
+use Rattle.mailbox.specs.Outcome.{Outcome}
 use Rattle.mailbox.specs.EventCommands.{clear-event-records}
-use Rattle.mailbox.specs.Mailbox.{run-command, inject, answer}
+use Rattle.mailbox.specs.Mailbox.{inject, answer}
 use Rattle.mailbox.specs.DeviceCalls as Device
-use Rattle.mailbox.proofs.Laws.{injection-list, logs-told, disabled-stays}
+use Rattle.mailbox.proofs.Laws.{Moved, nothing, one-log, settings, the-clock, list-and-log, the-list, the-media, answer-moves, injection-list, logs-told, disabled-stays}
 use Rattle.history.specs.Calls.{Call, command, event-report, media-report, line-test, event-status, damage-total, step, after}
 use Rattle.history.specs.Cases.{given-of, stated-of}
 use Rattle.history.specs.Interrupts.{enabled-unit}
@@ -53,50 +49,22 @@ module _ (P : LogState → LogState → Type 0) (itself : (s : LogState) → P s
   abbrev Unless : ℕ → Type 0
   Unless op = (op ≡ 0x0101 → ⊥) ⊎ ((s : LogState) (p : List ℕ) → P s (Clear.clear-log s p .log))
 
-  -- what it leaves of the logs; and of media, where it is no Sanitize
-  record Leaves (d : DeviceState) (op : ℕ) (o : Outcome) : Type 0 where
-    leaves : Each d (o .next)
-    media : (op ≡ 0x4400 → ⊥) → o .next .media ≡ d .media
-
-  run-each : (d : DeviceState) (op : ℕ) (p : List ℕ) (time : ℕ) (area : List ℕ) → Unless op → Leaves d op (run-command d op p time area)
-  unfolding run-command clear-event-records
-  run-each d op p time area unless =
-      either (Leaves d op) (eqb op 0x0100) (same _ refl refl)
-      (cleared (eqb op 0x0101) refl _
-      (either (Leaves d op) (eqb op 0x0102) (same _ refl refl)
-      (either (Leaves d op) (eqb op 0x0103) (same _ refl refl)
-      (either (Leaves d op) (eqb op 0x0300) (same _ refl refl)
-      (either (Leaves d op) (eqb op 0x0301) (same _ refl refl)
-      (either (Leaves d op) (eqb op 0x0400) (same _ refl refl)
-      (either (Leaves d op) (eqb op 0x0401) (same _ refl refl)
-      (either (Leaves d op) (eqb op 0x4000) (same _ refl refl)
-      (either (Leaves d op) (eqb op 0x4102) (same _ refl refl)
-      (either (Leaves d op) (eqb op 0x4103) (same _ refl refl)
-      (either (Leaves d op) (eqb op 0x4300) (same _ refl refl)
-      (either (Leaves d op) (eqb op 0x4301) (record { leaves = injection-each d p time; media = λ f. injection-list d p time .media })
-      (either (Leaves d op) (eqb op 0x4302) (same _ refl refl)
-      (starting (eqb op 0x4400) refl
-      (same _ refl refl)))))))))))))))
-    where
-      same : (o : Outcome) → o .next .logs ≡ d .logs → o .next .media ≡ d .media → Leaves d op o
-      same o e m = record { leaves = each-same d (o .next) e; media = λ f. m }
-
-      starting : (b : Bool) → eqb op 0x4400 ≡ b → {rest : Outcome} → Leaves d op rest → Leaves d op (cond b (changes started (with-media d (sanitize (d .volatile + d .persistent) time))) rest)
-      starting false e r = r
-      starting true e r = record { leaves = each-same d _ refl; media = λ f. absurd (f (eqb-true op 0x4400 e)) }
-
-      cleared : (b : Bool) → eqb op 0x0101 ≡ b → (rest : Outcome) → Leaves d op rest → Leaves d op (cond b (clear-event-records d p) rest)
-      cleared false e rest r = r
-      cleared true e rest r = by unless
-        where
-          by : Unless op → Leaves d op (clear-event-records d p)
-          by (inl f) = absurd (f (eqb-true op 0x0101 e))
-          by (inr clear) = record { leaves = record { each = each-cleared P itself clear (d .logs) p }; media = λ f. refl }
-
   command-each : (d : DeviceState) (op : ℕ) (p : List ℕ) (time : ℕ) (area : List ℕ) (room : ℕ) → Unless op → Each d (answer d op p time area room .next)
-  unfolding answer
-  command-each d op p time area room unless =
-      either (Leaves d op) (eqb (first-code (d .media .disabled) op (length p) (length area) room) 0) (run-each d op p time area unless) (record { leaves = each-same d d refl; media = λ f. refl }) .leaves
+  unfolding clear-event-records
+  command-each d op p time area room unless = moved (answer-moves d op p time area room)
+    where
+      cleared : op ≡ 0x0101 → Unless op → Each d (clear-event-records d p .next)
+      cleared e (inl f) = absurd (f e)
+      cleared e (inr clear) = record { each = each-cleared P itself clear (d .logs) p }
+
+      moved : {o : Outcome} → Moved d op p time o → Each d (o .next)
+      moved (nothing r is quiet) = rw is (each-same d d refl)
+      moved (one-log e is) = rw is (cleared e unless)
+      moved (settings e is) = rw is (each-same d _ refl)
+      moved (the-clock e c is) = rw is (each-same d _ refl)
+      moved (list-and-log e is) = rw is (injection-each d p time)
+      moved (the-list e is) = rw is (each-same d _ refl)
+      moved (the-media e m is) = rw is (each-same d _ refl)
 
   event-each : (d : DeviceState) (time log : ℕ) (bytes : List ℕ) → Each d (Device.event-answer d time log bytes .next)
   unfolding Device.event-answer
@@ -149,12 +117,9 @@ pub media-stays : (d : DeviceState) (c : Call) → NothingDue d c → d .media .
 unfolding step Device.media-answer Device.event-answer
 media-stays d c idle off = subst (λ (e : DeviceState). e .media .disabled ≡ true → step d c .next .media ≡ e .media) (found-same d c idle) (stays d c) off
   where
-    no-sanitize : (e : DeviceState) (op : ℕ) (p : List ℕ) (time : ℕ) (area : List ℕ) → (op ≡ 0x4400 → ⊥) → run-command e op p time area .next .media ≡ e .media
-    no-sanitize e op p time area = run-each NextGoesOn (λ s. inl refl) next-reported e op p time area (inr next-cleared) .media
-
     -- from the device that it finds
     stays : (d : DeviceState) (c : Call) → found-by d c .media .disabled ≡ true → step d c .next .media ≡ found-by d c .media
-    stays d (command opcode payload time area room) o = disabled-stays (ended d time) opcode payload time area room o (no-sanitize (ended d time) opcode payload time area)
+    stays d (command opcode payload time area room) o = disabled-stays (ended d time) opcode payload time area room o
     stays d (event-report time log bytes) o = refl
     stays d (media-report time address lines kind) o =
         either (λ (m : Device.MediaOutcome). m .next .media ≡ ended d time .media) (eqb (Device.media-code (lines-of (ended d time)) address lines kind) 0) refl refl

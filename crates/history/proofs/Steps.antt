@@ -4,7 +4,7 @@ use mathlib.Core.Path.{_≡_, refl, sym, ap₂, _∙_}
 use mathlib.Core.Bool.{Bool, true, false, cond, false≢true}
 use mathlib.Core.List.{List}
 use Prim.Native.Nat.{ℕ, _+_, _*_}
-use borrow.Author.Tests.{eqb-true}
+use borrow.Author.Tests.{eqb-true, eq-eqb}
 use lib.Dec.{eqb}
 use lib.ListN.{length}
 use Rattle.wire.specs.Wire.{field}
@@ -22,7 +22,7 @@ use Rattle.mailbox.specs.EventCommands.{clear-event-records}
 use Rattle.commands.specs.PoisonCommands.{line-of, line-code, inject-poison, clear-poison}
 use Rattle.mailbox.specs.Mailbox.{run-command, answer}
 use Rattle.mailbox.specs.DeviceCalls as Device
-use Rattle.mailbox.proofs.Laws.{line-inside, media-zero, injection-list}
+use Rattle.mailbox.proofs.Laws.{Moved, nothing, one-log, settings, the-clock, list-and-log, the-list, the-media, run-moves, line-inside, media-zero, injection-list}
 use Rattle.history.specs.Calls.{Call, command, event-report, media-report, line-test, event-status, damage-total, step}
 use Rattle.history.specs.Paper.{write-command, write}
 
@@ -56,30 +56,19 @@ same-self d = record { lines = refl; list = refl }
 moves-same : (n : ℕ) (d e : DeviceState) (p : Paper) → Same d e → Holds n d p → Moves n d e p
 moves-same n d e p s h = record { lines = s .lines ∙ h .lines; kept = rw (s .list) (kept-same n (d .poison) p (h .consistent)) }
 
--- of two outcomes that each leave it, whichever is taken leaves it
-either : (d : DeviceState) (b : Bool) (x y : Outcome) → Same d (x .next) → Same d (y .next) → Same d (cond b x y .next)
-either d true x y s t = s
-either d false x y s t = t
-
 -- a command that is neither Inject Poison nor Clear Poison leaves the list
 run-leaves : (d : DeviceState) (op : ℕ) (p : List ℕ) (t : ℕ) (area : List ℕ) → eqb op 0x4301 ≡ false → eqb op 0x4302 ≡ false → Same d (run-command d op p t area .next)
-unfolding run-command clear-event-records
-run-leaves d op p t area i c =
-    rw (i, c)
-    (either d (eqb op 0x0100) _ _ (same-self d)
-    (either d (eqb op 0x0101) _ _ (record { lines = refl; list = refl })
-    (either d (eqb op 0x0102) _ _ (same-self d)
-    (either d (eqb op 0x0103) _ _ (record { lines = refl; list = refl })
-    (either d (eqb op 0x0300) _ _ (same-self d)
-    (either d (eqb op 0x0301) _ _ (record { lines = refl; list = refl })
-    (either d (eqb op 0x0400) _ _ (same-self d)
-    (either d (eqb op 0x0401) _ _ (same-self d)
-    (either d (eqb op 0x4000) _ _ (same-self d)
-    (either d (eqb op 0x4102) _ _ (same-self d)
-    (either d (eqb op 0x4103) _ _ (same-self d)
-    (either d (eqb op 0x4300) _ _ (same-self d)
-    (either d (eqb op 0x4400) _ _ (record { lines = refl; list = refl })
-    (same-self d))))))))))))))
+unfolding clear-event-records
+run-leaves d op p t area i c = leaves (run-moves d op p t area)
+  where
+    leaves : {o : Outcome} → Moved d op p t o → Same d (o .next)
+    leaves (nothing r is quiet) = rw is (same-self d)
+    leaves (one-log e is) = rw is (record { lines = refl; list = refl })
+    leaves (settings e is) = rw is (record { lines = refl; list = refl })
+    leaves (the-clock e x is) = rw is (record { lines = refl; list = refl })
+    leaves (list-and-log e is) = absurd (false≢true (sym i ∙ eq-eqb op 0x4301 e))
+    leaves (the-list e is) = absurd (false≢true (sym c ∙ eq-eqb op 0x4302 e))
+    leaves (the-media e m is) = rw is (record { lines = refl; list = refl })
 
 -- ---- Inject Poison and Clear Poison
 inject-keeps : (n : ℕ) (s : PoisonState) (p : Paper) (payload : List ℕ) → Consistent n s p

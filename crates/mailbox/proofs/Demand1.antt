@@ -7,15 +7,14 @@ use Prim.Native.Nat.{ℕ, _+_}
 use native.Mathlib.Omega.{arith}
 use lib.Dec.{eqb, leb}
 use lib.ListN.{length}
-use Rattle.wire.specs.Wire.{field, part, splice, same}
+use Rattle.wire.specs.Wire.{field, splice, same}
 use Rattle.poison.specs.State.{PoisonState}
 use Rattle.poison.specs.Inject.{injects}
 use Rattle.mailbox.specs.LineStatus.{status-number}
 use Rattle.mailbox.specs.declared.line_status.LineStatus.{LineStatus}
 use Rattle.mailbox.specs.declared.line_status.LineStatus.the-variants.{Clean, Damaged, Unknown, Disabled}
 use Rattle.mailbox.specs.Ending.{ended, Ends, AfterEnding}
-use Rattle.events.specs.Log.{LogState}
-use Rattle.events.proofs.Laws.{refused-report-changes-nothing, refused-clear-changes-nothing, refused-get-replies-nothing}
+use Rattle.events.proofs.Laws.{refused-report-changes-nothing, refused-clear-changes-nothing}
 use Rattle.mailbox.specs.State.{DeviceState, lines-of, with-policy, with-logs, with-poison, state-of}
 use Rattle.mailbox.specs.declared.device.Device.{Device}
 use Rattle.mailbox.specs.declared.device.Answer.{Answer}
@@ -28,21 +27,17 @@ use Rattle.commands.specs.Vector.{no-vector, raised}
 use Rattle.mailbox.specs.Contracts.{Answered, Makes, EventDone, MediaDone, LineDone}
 use Rattle.wire.specs.Returns.{invalid-input, started, Refused}
 use Rattle.wire.proofs.Laws.{either}
-use Rattle.commands.specs.Numbers.{mailbox-size, most-units}
-use Rattle.commands.specs.Commands.{first-code}
-use Rattle.commands.specs.Reply.{Reply, replied, no-reply}
+use Rattle.commands.specs.Numbers.{most-units}
+use Rattle.commands.specs.Reply.{Reply}
 use Rattle.mailbox.specs.Outcome.{Outcome, reads, changes}
-use Rattle.commands.specs.Clock.{device-time, get-timestamp}
-use Rattle.commands.specs.Policy.{get-policy, set-interrupt-policy}
-use Rattle.commands.specs.EffectsLog.{effects-log-size, effects-log-id, log-offset, log-length, get-supported-logs, get-log}
-use Rattle.commands.specs.Identity.{identify}
-use Rattle.mailbox.specs.EventCommands.{get-event-records, clear-event-records}
-use Rattle.commands.specs.PoisonCommands.{ListChange, line-of, line-code, range-code, get-poison-list, inject-poison, inject-adds, clear-poison}
-use Rattle.labels.specs.Labels.{get-labels}
-use Rattle.labels.proofs.Laws.{get-refused}
-use Rattle.mailbox.specs.Mailbox.{area-after, run-command, inject, answer, outcome, changes-policy, changes-list}
+use Rattle.commands.specs.Clock.{device-time}
+use Rattle.commands.specs.Policy.{set-interrupt-policy}
+use Rattle.mailbox.specs.EventCommands.{clear-event-records}
+use Rattle.commands.specs.PoisonCommands.{ListChange, line-of, line-code, inject-poison, inject-adds, clear-poison}
+use Rattle.mailbox.specs.Mailbox.{area-after, inject, answer, outcome, changes-policy, changes-list}
 use Rattle.mailbox.specs.DeviceCalls.{new-device, MakeOutcome, make, event-answer, event-report, media-code, MediaOutcome, media-answer, media-report, LineOutcome, line-test}
 use Rattle.mailbox.proofs.AreaAnswers.{refusal-leaves}
+use Rattle.mailbox.proofs.Moving.{Silent, Moved, nothing, one-log, settings, the-clock, list-and-log, the-list, the-media, answer-moves}
 use Rattle.commands.proofs.Laws.{refused-set-changes-nothing}
 use Rattle.commands.proofs.Laws.{raised-later}
 
@@ -50,44 +45,14 @@ use Rattle.commands.proofs.Laws.{raised-later}
 pub record Refuses (d : DeviceState) (o : Outcome) : Type 0 where
   pub refuses : Refused (o .code) → (o .reply ≡ []) × (o .next ≡ d) × (o .vector ≡ no-vector)
 
--- the same of a reply, and of a change of the list
-record Silent (o : Reply) : Type 0 where
-  silent : (o .code ≡ 0 → ⊥) → o .bytes ≡ []
-
+-- the same of a change of the list
 record Keeps (s : PoisonState) (c : ListChange) : Type 0 where
   keeps : (c .code ≡ 0 → ⊥) → c .list ≡ s
 
--- ---- replies
-success-silent : (bs : List ℕ) → Silent (replied bs)
-success-silent bs = record { silent = λ h. absurd (h refl) }
-
-refusal-silent : (n : ℕ) → Silent (no-reply n)
-refusal-silent n = record { silent = λ h. refl }
-
-events-silent : (ls : List LogState) (p : List ℕ) → Silent (get-event-records ls p)
-unfolding get-event-records
-events-silent ls p = record { silent = refused-get-replies-nothing _ ls _ }
-
-log-silent : (p : List ℕ) → Silent (get-log p)
-unfolding get-log
-log-silent p =
-    either Silent (same (part 0 16 p) effects-log-id)
-    (either Silent (leb (log-length p) mailbox-size)
-    (either Silent (leb (log-offset p + log-length p) effects-log-size) (success-silent _) (refusal-silent _))
-    (refusal-silent _))
-    (refusal-silent _)
-
-labels-silent : (p area : List ℕ) → Silent (get-labels mailbox-size p area)
-labels-silent p area = record { silent = get-refused mailbox-size p area }
-
-list-silent : (lines : ℕ) (s : PoisonState) (p : List ℕ) → Silent (get-poison-list lines s p)
-unfolding get-poison-list
-list-silent lines s p = either Silent (eqb (range-code lines (field p 0 8) (field p 8 8)) 0) (success-silent _) (refusal-silent _)
-
+-- ---- replies and changes
 silent-refuses : (d : DeviceState) {o : Reply} → Silent o → Refuses d (reads d o)
 silent-refuses d k = record { refuses = λ h. (k .silent (h .not-success), refl, refl) }
 
--- ---- changes
 success-refuses : (d e : DeviceState) → Refuses d (changes 0 e)
 success-refuses d e = record { refuses = λ h. absurd (h .not-success refl) }
 
@@ -122,33 +87,19 @@ unfolding inject
 inject-refuses d p time =
     either (Refuses d) (inject-adds (lines-of d) (d .poison) p) (record { refuses = λ h. absurd (h .not-success refl) }) (keeps-refuses d (inject-keeps _ _ p))
 
--- ---- the commands
-commands-refuse : (d : DeviceState) (op : ℕ) (p : List ℕ) (time : ℕ) (area : List ℕ) → Refuses d (run-command d op p time area)
-unfolding run-command get-policy get-timestamp get-supported-logs identify
-commands-refuse d op p time area =
-    either (Refuses d) (eqb op 0x0100) (silent-refuses d (events-silent _ p))
-    (either (Refuses d) (eqb op 0x0101) (events-refuse d p)
-    (either (Refuses d) (eqb op 0x0102) (silent-refuses d (success-silent _))
-    (either (Refuses d) (eqb op 0x0103) (policy-refuses d p)
-    (either (Refuses d) (eqb op 0x0300) (silent-refuses d (success-silent _))
-    (either (Refuses d) (eqb op 0x0301) (success-refuses d _)
-    (either (Refuses d) (eqb op 0x0400) (silent-refuses d (success-silent _))
-    (either (Refuses d) (eqb op 0x0401) (silent-refuses d (log-silent p))
-    (either (Refuses d) (eqb op 0x4000) (silent-refuses d (success-silent _))
-    (either (Refuses d) (eqb op 0x4102) (silent-refuses d (labels-silent p area))
-    (either (Refuses d) (eqb op 0x4103) (record { refuses = λ h. (refl, refl, refl) })
-    (either (Refuses d) (eqb op 0x4300) (silent-refuses d (list-silent _ _ p))
-    (either (Refuses d) (eqb op 0x4301) (inject-refuses d p time)
-    (either (Refuses d) (eqb op 0x4302) (keeps-refuses d (clear-keeps _ _ p _))
-    (either (Refuses d) (eqb op 0x4400) (started-refuses d _)
-    (record { refuses = λ h. (refl, refl, refl) })))))))))))))))
-
--- on the device that a command finds
+-- ---- the commands, on the device that they find
 found-refusal : (d : DeviceState) (op : ℕ) (p : List ℕ) (time : ℕ) (area : List ℕ) (room : ℕ) → Refused (answer d op p time area room .code)
     → (answer d op p time area room .reply ≡ []) × (answer d op p time area room .next ≡ d) × (answer d op p time area room .vector ≡ no-vector)
-unfolding answer
-found-refusal d op p time area room =
-    either (Refuses d) (eqb (first-code (d .media .disabled) op (length p) (length area) room) 0) (commands-refuse d op p time area) (record { refuses = λ h. (refl, refl, refl) }) .refuses
+found-refusal d op p time area room = moved (answer-moves d op p time area room) .refuses
+  where
+    moved : {o : Outcome} → Moved d op p time o → Refuses d o
+    moved (nothing r is quiet) = rw is (silent-refuses d quiet)
+    moved (one-log e is) = rw is (events-refuse d p)
+    moved (settings e is) = rw is (policy-refuses d p)
+    moved (the-clock e c is) = rw is (success-refuses d _)
+    moved (list-and-log e is) = rw is (inject-refuses d p time)
+    moved (the-list e is) = rw is (keeps-refuses d (clear-keeps _ _ p _))
+    moved (the-media e m is) = rw is (started-refuses d _)
 
 -- Demand 1 for the commands: a command that is refused has an empty reply, leaves the device's state as the end of a due Sanitize leaves it, and carries no vector, whatever the opcode, the payload, the
 -- time, the label area and the size of the reply buffer.

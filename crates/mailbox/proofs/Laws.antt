@@ -16,6 +16,9 @@ pub use Rattle.mailbox.proofs.Endings.{ended-none, ended-due, end-empti
 -- A command that is answered 0000h, or that the checks before its own let through, is the command of its opcode; Clear Event Records with a payload of 6 to 2,048
 -- bytes and room for every reply is let through.
 pub use Rattle.mailbox.proofs.Accepted.{admitted-runs, allowed-runs, accepted-runs, clear-events-admitted}
+-- What a command moves of a device (`Moved`): nothing, or the part of the one command that moves it, by its definition; of a command past the checks before its own, and of any. A law on what commands leave goes by
+-- these cases.
+pub use Rattle.mailbox.proofs.Moving.{Moved, nothing, one-log, settings, the-clock, list-and-log, the-list, the-media, run-moves, answer-moves}
 -- An address that the checks of a line do not refuse is that of a line of the device; a range that they do not refuse ends on the device.
 pub use Rattle.commands.proofs.Laws.{line-inside, range-ends}
 -- A media report that its checks do not refuse is of a type of three bits and of lines of the device.

@@ -1,5 +1,6 @@
 -- The laws of crate `mailbox` that more than one proof cites, by subject. A crate above cites Laws alone.
 pub mod Accepted
+pub mod Moving
 pub mod Endings
 pub mod Answers
 pub mod EventAnswers

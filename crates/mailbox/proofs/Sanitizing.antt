@@ -8,7 +8,7 @@ use native.Mathlib.Omega.{arith}
 use native.Mathlib.Decide.{ℕ-discrete}
 use lib.Dec.{eqb}
 use lib.ListN.{length}
-use borrow.Author.Tests.{le-leb, lt-leb, ne-eqb, eq-eqb}
+use borrow.Author.Tests.{le-leb, lt-leb, ne-eqb}
 use Rattle.wire.specs.Returns.{success, started, busy, media-disabled, need}
 use Rattle.commands.specs.Commands.{admission, while-disabled, blocked, first-code}
 use Rattle.commands.specs.Media.{duration, sanitize, due}
@@ -16,7 +16,8 @@ use Rattle.commands.specs.PoisonCommands.{line-of, line-code}
 use Rattle.commands.proofs.Laws.{first-admitted, first-zero, first-not-started}
 use Rattle.mailbox.specs.State.{DeviceState, lines-of, with-media}
 use Rattle.mailbox.specs.Ending.{ended}
-use Rattle.mailbox.specs.Outcome.{changes, refused}
+use Rattle.mailbox.specs.Outcome.{Outcome, changes, refused}
+use Rattle.mailbox.specs.EventCommands.{clear-event-records}
 use Rattle.mailbox.specs.Mailbox.{run-command, answer}
 use Rattle.mailbox.specs.DeviceCalls.{told, line-test}
 use Rattle.mailbox.specs.LineStatus.{status-of}
@@ -24,6 +25,8 @@ use Rattle.mailbox.specs.declared.line_status.LineStatus.the-variants.{U
 use Rattle.poison.specs.LineTest.{line-test as list-test}
 use Rattle.mailbox.proofs.Accepted.{admitted-runs}
 use Rattle.mailbox.proofs.Endings.{ended-none, ended-due}
+use Rattle.mailbox.proofs.Moving.{Moved, nothing, one-log, settings, the-clock, list-and-log, the-list, the-media, run-moves}
+use Rattle.mailbox.proofs.Raising.{injection-list}
 
 -- what media disabled refuses is the answer, where the checks before let it through
 stopped : (d : DeviceState) (op : ℕ) (p : List ℕ) (time : ℕ) (area : List ℕ) (room code : ℕ) → d .media .disabled ≡ true → while-disabled op ≡ code → (code ≡ 0 → ⊥)
@@ -64,19 +67,25 @@ pub disabled-refused : (d : DeviceState) (op : ℕ) (p : List ℕ) (time : ℕ) 
 disabled-refused d op p time area room off stops z = stopped d op p time area room media-disabled off stops (λ e. omega (arith, e)) z
 
 -- media stays disabled, since when and for how long it was, whatever the command: the one that would move it is refused
-pub disabled-stays : (d : DeviceState) (op : ℕ) (p : List ℕ) (time : ℕ) (area : List ℕ) (room : ℕ) → d .media .disabled ≡ true
-    → ((op ≡ 0x4400 → ⊥) → run-command d op p time area .next .media ≡ d .media) → answer d op p time area room .next .media ≡ d .media
-unfolding answer while-disabled
-disabled-stays d op p time area room off other = go (ℕ-discrete (first-code (d .media .disabled) op (length p) (length area) room) 0)
+pub disabled-stays : (d : DeviceState) (op : ℕ) (p : List ℕ) (time : ℕ) (area : List ℕ) (room : ℕ) → d .media .disabled ≡ true → answer d op p time area room .next .media ≡ d .media
+unfolding answer while-disabled clear-event-records
+disabled-stays d op p time area room off = go (ℕ-discrete (first-code (d .media .disabled) op (length p) (length area) room) 0)
   where
     first : ℕ
     first = first-code (d .media .disabled) op (length p) (length area) room
 
-    go : Dec (first ≡ 0) → need (eqb first success) (refused first d) (run-command d op p time area) .next .media ≡ d .media
+    moved : first ≡ 0 → {o : Outcome} → Moved d op p time o → o .next .media ≡ d .media
+    moved z (nothing r is quiet) = ap (λ (o : Outcome). o .next .media) is
+    moved z (one-log e is) = ap (λ (o : Outcome). o .next .media) is
+    moved z (settings e is) = ap (λ (o : Outcome). o .next .media) is
+    moved z (the-clock e c is) = ap (λ (o : Outcome). o .next .media) is
+    moved z (list-and-log e is) = ap (λ (o : Outcome). o .next .media) is ∙ injection-list d p time .media
+    moved z (the-list e is) = ap (λ (o : Outcome). o .next .media) is
+    moved z (the-media e m is) = absurd (omega (arith, sym (ap₂ blocked off e) ∙ first-zero (d .media .disabled) op (length p) (length area) room z .1))
+
+    go : Dec (first ≡ 0) → answer d op p time area room .next .media ≡ d .media
     go (no f) = ap (λ (b : Bool). need b (refused first d) (run-command d op p time area) .next .media) (ne-eqb first 0 f)
-    go (yes z) =
-        ap (λ (b : Bool). need b (refused first d) (run-command d op p time area) .next .media) (eq-eqb first 0 z)
-        ∙ other (λ e. omega (arith, sym (ap₂ blocked off e) ∙ first-zero (d .media .disabled) op (length p) (length area) room z .1))
+    go (yes z) = ap (λ (o : Outcome). o .next .media) (admitted-runs d op p time area room z) ∙ moved z (run-moves d op p time area)
 
 -- no line is answered Clean, whatever the list
 pub disabled-not-clean : (d : DeviceState) (address : ℕ) → d .media .disabled ≡ true → line-test d address .number ≡ 0 → ⊥
