@@ -1,5 +1,5 @@
 -- From the start of a Sanitize to its end (document 02, W-207), over every list of calls: until a call comes whose time is at least the duration past the beginning no line is answered Clean, whatever the calls and their order;
--- that call finds media enabled and every log emptied. Assumes nothing.
+-- that call finds media enabled and every log emptied; and nothing is due any more until another Sanitize starts. Assumes nothing.
 use mathlib.Core.Path.{_≡_, sym, ap, _∙_}
 use mathlib.Core.Bool.{true}
 use mathlib.Core.List.{List, [], _∷_}
@@ -21,8 +21,9 @@ use Rattle.mailbox.proofs.Laws.{sanitize-started, disabled-not-clean, due-from,
 use Rattle.history.specs.Calls.{Call, command, event-report, media-report, line-test, event-status, damage-total, step, after}
 use Rattle.history.specs.Ran.{Steps}
 use Rattle.history.specs.Refusals.{NothingDue}
-use Rattle.history.specs.Sanitizing.{Before, AllBefore, From, FindsEnded, Led, none, more}
-use Rattle.history.proofs.Sanitizing.{media-stays}
+use Rattle.history.specs.Sanitizing.{Before, AllBefore, From, NoneStarts, FindsEnded, Led, none, more}
+use Rattle.history.proofs.Demand1.{found-same}
+use Rattle.history.proofs.Sanitizing.{disabled-stays, enabled-stays}
 
 -- ---- a device whose media a Sanitize disabled, on so many units at a time
 module _ (units time : ℕ) where
@@ -48,13 +49,13 @@ module _ (units time : ℕ) where
   -- so that media stays as the Sanitize left it: over a list of calls, and over calls of the code
   lasts : (d : DeviceState) → d .media ≡ sanitize units time → (cs : List Call) → AllBefore End cs → after d cs .media ≡ sanitize units time
   lasts d is [] h = is
-  lasts d is (c ∷ cs) h = lasts (step d c .next) (media-stays d c (early d is c (h .0)) (off d is) ∙ is) cs (h .1)
+  lasts d is (c ∷ cs) h = lasts (step d c .next) (disabled-stays d c (early d is c (h .0)) (off d is) ∙ is) cs (h .1)
 
   code-lasts : (d e : Device) → state-of d .media ≡ sanitize units time → Led End d e → state-of e .media ≡ sanitize units time
   code-lasts d e is (none _ same) = ap (λ (x : Device). state-of x .media) same ∙ is
   code-lasts d e is (more b _ led c code s h) =
       let before = code-lasts d b is led in
-      ap (λ (x : DeviceState). x .media) (s .next) ∙ media-stays (state-of b) c (early (state-of b) before c h) (off (state-of b) before) ∙ before
+      ap (λ (x : DeviceState). x .media) (s .next) ∙ disabled-stays (state-of b) c (early (state-of b) before c h) (off (state-of b) before) ∙ before
 
   -- a call at the end or later finds the work ended
   late : (d : DeviceState) → d .media ≡ sanitize units time → (c : Call) → From End c → FindsEnded d c
@@ -64,6 +65,21 @@ module _ (units time : ℕ) where
   late d is (line-test address) h = absurd h
   late d is event-status h = absurd h
   late d is damage-total h = absurd h
+
+-- ---- a device whose media is enabled: nothing is due, and no call but one that is answered 0001h changes that
+idle : (d : DeviceState) → d .media ≡ enabled → (c : Call) → NothingDue d c
+unfolding due
+idle d is (command opcode payload t area room) = ap (λ (m : MediaState). due m t) is
+idle d is (event-report t log bytes) = ap (λ (m : MediaState). due m t) is
+idle d is (media-report t address lines kind) = ap (λ (m : MediaState). due m t) is
+idle d is (line-test address) = tt
+idle d is event-status = tt
+idle d is damage-total = tt
+
+enabled-lasts : (d : DeviceState) → d .media ≡ enabled → (cs : List Call) → NoneStarts d cs → after d cs .media ≡ enabled
+enabled-lasts d is [] n = is
+enabled-lasts d is (c ∷ cs) n =
+    enabled-lasts (step d c .next) (enabled-stays d c (n .0) ∙ ap (λ (x : DeviceState). x .media) (found-same d c (idle d is c)) ∙ is) cs (n .1)
 
 -- ---- any device, and a Sanitize on it that was answered 0001h, started
 module _ (d : DeviceState) (p : List ℕ) (time : ℕ) (area : List ℕ) (room : ℕ) (begun : step d (command 0x4400 p time area room) .code ≡ started) where
@@ -87,7 +103,12 @@ module _ (d : DeviceState) (p : List ℕ) (time : ℕ) (area : List ℕ) (room :
   pub work-ends : (cs : List Call) → AllBefore end cs → (c : Call) → From end c → FindsEnded (after left cs) c
   work-ends cs h c = late (d .volatile + d .persistent) time (after left cs) (lasts (d .volatile + d .persistent) time left recorded cs h) c
 
--- The same of calls of the code, from the device that a Sanitize answered 0001h left: its line test answers Clean for no address.
+  -- The ending happens once: from that call on, whatever calls come, nothing is due at any call until a Sanitize is answered 0001h again.
+  pub ends-once : (cs : List Call) → AllBefore end cs → (c : Call) → From end c → (later : List Call) → NoneStarts (after left cs) (c ∷ later) → (next : Call) → NothingDue (after (after left cs) (c ∷ later)) next
+  ends-once cs h c f later n next =
+      idle (after (after left cs) (c ∷ later)) (enabled-lasts (step (after left cs) c .next) (enabled-stays (after left cs) c (n .0) ∙ work-ends cs h c f .media) later (n .1)) next
+
+-- `none-clean` of calls of the code, from the device that a Sanitize answered 0001h left: its line test answers Clean for no address.
 pub code-none-clean : (d e f : Device) (p : List ℕ) (time : ℕ) (area : List ℕ) (room : ℕ) → Steps d e (command 0x4400 p time area room) started
     → Led (time + duration (d .volatile + d .persistent)) e f → (address : ℕ) (r : LineAnswer) → LineDone (Device.line-test (state-of f) address) r → r .answer ≡ Clean → ⊥
 code-none-clean d e f p time area room s led address r a clean =

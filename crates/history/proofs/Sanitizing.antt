@@ -1,7 +1,7 @@
 -- Sanitize over any call (document 02, W-207): no call but Clear Event Records and the end of a Sanitize takes a record from a log, no call lets a next handle go back, and none moves media that is disabled before its work is due. And the examples of
 -- `specs/Sanitizing.antt` hold of the definitions, by computation. Assumes nothing.
-use mathlib.Core.Path.{_≡_, refl, sym, ap, subst}
-use mathlib.Core.Bool.{Bool, true, false, cond}
+use mathlib.Core.Path.{_≡_, refl, sym, ap, _∙_, subst}
+use mathlib.Core.Bool.{Bool, true, false, cond, false≢true}
 use mathlib.Core.Logic.{_⊎_, inl, inr}
 use mathlib.Core.List.{List, map}
 use Prim.Native.Nat.{ℕ}
@@ -12,6 +12,8 @@ use Rattle.events.specs.Report as Event
 use Rattle.events.specs.Clear as Clear
 use Rattle.events.specs.Onward.{StaysHeld, NextGoesOn}
 use Rattle.events.proofs.Laws.{stays-itself, stays-reported, next-reported, next-cleared, emptied-at, each-reported, each-cleared}
+use Rattle.wire.specs.Returns.{started}
+use Rattle.commands.specs.declared.media.MediaState.{MediaState}
 use Rattle.commands.specs.Media.{due}
 use Rattle.commands.specs.PoisonCommands.{inject-adds}
 use Rattle.mailbox.specs.State.{DeviceState, lines-of}
@@ -20,7 +22,7 @@ use Rattle.mailbox.specs.Outcome.{Outcome}
 use Rattle.mailbox.specs.EventCommands.{clear-event-records}
 use Rattle.mailbox.specs.Mailbox.{inject, answer}
 use Rattle.mailbox.specs.DeviceCalls as Device
-use Rattle.mailbox.proofs.Laws.{Moved, nothing, one-log, settings, the-clock, list-and-log, the-list, the-media, answer-moves, injection-list, logs-told, disabled-stays}
+use Rattle.mailbox.proofs.Laws.{Moved, nothing, one-log, settings, the-clock, list-and-log, the-list, the-media, answer-moves, injection-list, logs-told, media-after}
 use Rattle.history.specs.Calls.{Call, command, event-report, media-report, line-test, event-status, damage-total, step, after}
 use Rattle.history.specs.Cases.{given-of, stated-of}
 use Rattle.history.specs.Interrupts.{enabled-unit}
@@ -112,20 +114,35 @@ next-goes-on d c k =
     found d event-status = refl
     found d damage-total = refl
 
--- Media that is disabled when a call comes, and not due to be enabled by it, is left as it was: a Sanitize is refused, and nothing else moves it.
-pub media-stays : (d : DeviceState) (c : Call) → NothingDue d c → d .media .disabled ≡ true → step d c .next .media ≡ d .media
+-- A call leaves media as it finds it; or it is answered 0001h, and found media enabled.
+pub call-media : (d : DeviceState) (c : Call) → (step d c .next .media ≡ found-by d c .media) ⊎ ((step d c .code ≡ started) × (found-by d c .media .disabled ≡ false))
 unfolding step Device.media-answer Device.event-answer
-media-stays d c idle off = subst (λ (e : DeviceState). e .media .disabled ≡ true → step d c .next .media ≡ e .media) (found-same d c idle) (stays d c) off
+call-media d (command opcode payload time area room) = media-after (ended d time) opcode payload time area room
+call-media d (event-report time log bytes) = inl refl
+call-media d (media-report time address lines kind) =
+    inl (either (λ (m : Device.MediaOutcome). m .next .media ≡ ended d time .media) (eqb (Device.media-code (lines-of (ended d time)) address lines kind) 0) refl refl)
+call-media d (line-test address) = inl refl
+call-media d event-status = inl refl
+call-media d damage-total = inl refl
+
+-- Media that is disabled when a call comes, and not due to be enabled by it, is left as it was.
+pub disabled-stays : (d : DeviceState) (c : Call) → NothingDue d c → d .media .disabled ≡ true → step d c .next .media ≡ d .media
+disabled-stays d c idle off = by (call-media d c)
   where
-    -- from the device that it finds
-    stays : (d : DeviceState) (c : Call) → found-by d c .media .disabled ≡ true → step d c .next .media ≡ found-by d c .media
-    stays d (command opcode payload time area room) o = disabled-stays (ended d time) opcode payload time area room o
-    stays d (event-report time log bytes) o = refl
-    stays d (media-report time address lines kind) o =
-        either (λ (m : Device.MediaOutcome). m .next .media ≡ ended d time .media) (eqb (Device.media-code (lines-of (ended d time)) address lines kind) 0) refl refl
-    stays d (line-test address) o = refl
-    stays d event-status o = refl
-    stays d damage-total o = refl
+    found : found-by d c .media ≡ d .media
+    found = ap (λ (e : DeviceState). e .media) (found-same d c idle)
+
+    by : (step d c .next .media ≡ found-by d c .media) ⊎ ((step d c .code ≡ started) × (found-by d c .media .disabled ≡ false)) → step d c .next .media ≡ d .media
+    by (inl same) = same ∙ found
+    by (inr starts) = absurd (false≢true (sym (starts .1) ∙ ap (λ (m : MediaState). m .disabled) found ∙ off))
+
+-- Media that a call finds enabled is left so, where the call is not answered 0001h.
+pub enabled-stays : (d : DeviceState) (c : Call) → (step d c .code ≡ started → ⊥) → step d c .next .media ≡ found-by d c .media
+enabled-stays d c other = by (call-media d c)
+  where
+    by : (step d c .next .media ≡ found-by d c .media) ⊎ ((step d c .code ≡ started) × (found-by d c .media .disabled ≡ false)) → step d c .next .media ≡ found-by d c .media
+    by (inl same) = same
+    by (inr starts) = absurd (other (starts .0))
 
 -- ---- the examples
 pub sanitize-cases-hold : map given-of sanitize-cases ≡ map stated-of sanitize-cases

@@ -5,6 +5,7 @@ use mathlib.Core.Bool.{true, false, cond}
 use mathlib.Core.List.{List, [], _∷_, _++_, map}
 use lib.ListN.{length, set, replicate}
 use Rattle.wire.specs.Wire.{le}
+use Rattle.wire.specs.Returns.{started}
 use Rattle.poison.specs.Runs.{run}
 use Rattle.poison.specs.State.{entry}
 use Rattle.events.specs.Log.{log-at}
@@ -54,6 +55,11 @@ From end (media-report time address lines kind) = end ≤ time
 From end (line-test address) = ⊥
 From end event-status = ⊥
 From end damage-total = ⊥
+
+-- no call of a list is answered 0001h: none starts a Sanitize
+abbrev pub NoneStarts : DeviceState → List Call → Type 0
+NoneStarts d [] = Unit {0}
+NoneStarts d (c ∷ cs) = (step d c .code ≡ started → ⊥) × NoneStarts (step d c .next) cs
 
 -- a call finds the work ended: media enabled, and every log emptied, its next handle kept
 pub record FindsEnded (d : DeviceState) (c : Call) : Type 0 where

@@ -62,8 +62,10 @@ pub use Rattle.mailbox.proofs.Labels.{past-set-refused, reserved-set-re
 -- back, and one of a range apart from it gives what it gave before the Set.
 pub use Rattle.mailbox.proofs.Labels.{set-then-get, set-then-apart}
 -- W-207, in words: a Sanitize past the length check is 0001h and disables media where none runs, and 0006h while one does, and one that is answered 0001h did so; while media is disabled Inject Poison, Clear Poison, Get LSA and Set LSA past theirs are
--- 0007h, media stays as it is whatever the command, and no line is answered Clean.
-pub use Rattle.mailbox.proofs.Sanitizing.{sanitize-starts, sanitize-started, sanitize-busy, disabled-refused, disabled-stays, disabled-not-clean}
+-- 0007h, and no line is answered Clean.
+pub use Rattle.mailbox.proofs.Sanitizing.{sanitize-starts, sanitize-started, sanitize-busy, disabled-refused, disabled-not-clean}
+-- W-207, media: a command leaves it as it was, or is answered 0001h and found it enabled.
+pub use Rattle.mailbox.proofs.Sanitizing.{media-after}
 -- W-207, when: a Sanitize is due from the beginning plus the duration on and not before; its end comes once, after which nothing is due at any time, and nothing is due at the time of a call on the device that it
 -- finds.
 pub use Rattle.mailbox.proofs.Sanitizing.{due-from, not-due-before, ended-once, found-not-due}

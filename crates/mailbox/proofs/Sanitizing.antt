@@ -1,6 +1,7 @@
 -- Sanitize in words (document 02, W-207), of the definitions: its start; while media is disabled no line is answered Clean and the commands on memory are refused; the end comes once, empties the logs and lets the next
 -- handles go on. Assumes nothing.
-use mathlib.Core.Path.{_≡_, refl, sym, ap, ap₂, _∙_}
+use mathlib.Core.Path.{_≡_, refl, sym, ap, ap₂, _∙_, subst}
+use mathlib.Core.Logic.{_⊎_, inl, inr}
 use mathlib.Core.Bool.{Bool, true, false, cond, false≢true}
 use mathlib.Core.List.{List}
 use Prim.Native.Nat.{ℕ, _+_, _≤_, _<_}
@@ -66,26 +67,35 @@ pub disabled-refused : (d : DeviceState) (op : ℕ) (p : List ℕ) (time : ℕ) 
     → admission op (length p) (length area) room ≡ 0 → answer d op p time area room ≡ refused media-disabled d
 disabled-refused d op p time area room off stops z = stopped d op p time area room media-disabled off stops (λ e. omega (arith, e)) z
 
--- media stays disabled, since when and for how long it was, whatever the command: the one that would move it is refused
-pub disabled-stays : (d : DeviceState) (op : ℕ) (p : List ℕ) (time : ℕ) (area : List ℕ) (room : ℕ) → d .media .disabled ≡ true → answer d op p time area room .next .media ≡ d .media
+-- media is left as it was, whatever the command; or the command is answered 0001h, and found media enabled: while a Sanitize runs another is refused
+pub media-after : (d : DeviceState) (op : ℕ) (p : List ℕ) (time : ℕ) (area : List ℕ) (room : ℕ)
+    → (answer d op p time area room .next .media ≡ d .media) ⊎ ((answer d op p time area room .code ≡ started) × (d .media .disabled ≡ false))
 unfolding answer while-disabled clear-event-records
-disabled-stays d op p time area room off = go (ℕ-discrete (first-code (d .media .disabled) op (length p) (length area) room) 0)
+media-after d op p time area room = go (ℕ-discrete first 0)
   where
     first : ℕ
     first = first-code (d .media .disabled) op (length p) (length area) room
 
-    moved : first ≡ 0 → {o : Outcome} → Moved d op p time o → o .next .media ≡ d .media
-    moved z (nothing r is quiet) = ap (λ (o : Outcome). o .next .media) is
-    moved z (one-log e is) = ap (λ (o : Outcome). o .next .media) is
-    moved z (settings e is) = ap (λ (o : Outcome). o .next .media) is
-    moved z (the-clock e c is) = ap (λ (o : Outcome). o .next .media) is
-    moved z (list-and-log e is) = ap (λ (o : Outcome). o .next .media) is ∙ injection-list d p time .media
-    moved z (the-list e is) = ap (λ (o : Outcome). o .next .media) is
-    moved z (the-media e m is) = absurd (omega (arith, sym (ap₂ blocked off e) ∙ first-zero (d .media .disabled) op (length p) (length area) room z .1))
+    Left : Outcome → Type 0
+    Left o = (o .next .media ≡ d .media) ⊎ ((o .code ≡ started) × (d .media .disabled ≡ false))
 
-    go : Dec (first ≡ 0) → answer d op p time area room .next .media ≡ d .media
-    go (no f) = ap (λ (b : Bool). need b (refused first d) (run-command d op p time area) .next .media) (ne-eqb first 0 f)
-    go (yes z) = ap (λ (o : Outcome). o .next .media) (admitted-runs d op p time area room z) ∙ moved z (run-moves d op p time area)
+    -- a Sanitize that the checks let through found media enabled
+    found-enabled : first ≡ 0 → op ≡ 0x4400 → (b : Bool) → d .media .disabled ≡ b → d .media .disabled ≡ false
+    found-enabled z e false off = off
+    found-enabled z e true off = absurd (omega (arith, sym (ap₂ blocked off e) ∙ first-zero (d .media .disabled) op (length p) (length area) room z .1))
+
+    moved : first ≡ 0 → {o : Outcome} → Moved d op p time o → Left o
+    moved z (nothing r is quiet) = inl (ap (λ (o : Outcome). o .next .media) is)
+    moved z (one-log e is) = inl (ap (λ (o : Outcome). o .next .media) is)
+    moved z (settings e is) = inl (ap (λ (o : Outcome). o .next .media) is)
+    moved z (the-clock e c is) = inl (ap (λ (o : Outcome). o .next .media) is)
+    moved z (list-and-log e is) = inl (ap (λ (o : Outcome). o .next .media) is ∙ injection-list d p time .media)
+    moved z (the-list e is) = inl (ap (λ (o : Outcome). o .next .media) is)
+    moved z (the-media e m is) = inr (ap (λ (o : Outcome). o .code) is, found-enabled z e (d .media .disabled) refl)
+
+    go : Dec (first ≡ 0) → Left (answer d op p time area room)
+    go (no f) = inl (ap (λ (b : Bool). need b (refused first d) (run-command d op p time area) .next .media) (ne-eqb first 0 f))
+    go (yes z) = subst Left (sym (admitted-runs d op p time area room z)) (moved z (run-moves d op p time area))
 
 -- no line is answered Clean, whatever the list
 pub disabled-not-clean : (d : DeviceState) (address : ℕ) → d .media .disabled ≡ true → line-test d address .number ≡ 0 → ⊥
