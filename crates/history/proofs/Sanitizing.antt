@@ -1,4 +1,4 @@
--- Sanitize over any call (document 02, W-207): no call but Clear Event Records and the end of a Sanitize takes a record from a log, no call lets a next handle go back, and none moves media that is disabled before its work is due. And the examples of
+-- Sanitize over any call (document 02, W-207): no call but Clear Event Records and the end of a Sanitize takes a record from a log, no call lets a next handle go back, and media is left as the call finds it but by a Sanitize that is answered 0001h. And the examples of
 -- `specs/Sanitizing.antt` hold of the definitions, by computation. Assumes nothing.
 use mathlib.Core.Path.{_≡_, refl, sym, ap, _∙_, subst}
 use mathlib.Core.Bool.{Bool, true, false, cond, false≢true}

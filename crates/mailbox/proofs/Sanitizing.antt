@@ -1,5 +1,5 @@
--- Sanitize in words (document 02, W-207), of the definitions: its start; while media is disabled no line is answered Clean and the commands on memory are refused; the end comes once, empties the logs and lets the next
--- handles go on. Assumes nothing.
+-- Sanitize in words (document 02, W-207), of the definitions: its start; while media is disabled the commands on memory are refused and no line is answered Clean; what a command leaves of media; when the work is due, and
+-- that its end comes once. What the end leaves is in Endings. Assumes nothing.
 use mathlib.Core.Path.{_≡_, refl, sym, ap, ap₂, _∙_, subst}
 use mathlib.Core.Logic.{_⊎_, inl, inr}
 use mathlib.Core.Bool.{Bool, true, false, cond, false≢true}
