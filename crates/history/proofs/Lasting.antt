@@ -2,9 +2,9 @@
 -- that lasts holds of each log of every device that calls lead to from a new one (`reached-holds`). And beside it what the code's types say of a device, and
 -- `ValidDevice` does not: five settings, and an overflow time of the poison list of 64 bits (`reached-widths`). Assumes nothing.
 use Prim.Native.Nat.{ℕ, zero, suc, _+_, _≤_, _<_, _^_}
-use mathlib.Core.Path.{_≡_, refl}
+use mathlib.Core.Path.{_≡_, refl, sym, subst}
 use mathlib.Core.Bool.{Bool, true, false, _&&_}
-use mathlib.Core.List.{List, [], _∷_, map}
+use mathlib.Core.List.{List, [], _∷_}
 use native.Mathlib.Omega.{arith}
 use borrow.Author.Tests.{eqb-true, leb-true}
 use lib.Dec.{eqb, leb}
@@ -20,7 +20,7 @@ use Rattle.events.specs.Log as Log
 use Rattle.events.specs.Log.{LogState, ValidState, log-at}
 use Rattle.events.specs.Report as Event
 use Rattle.events.specs.Clear as Clear
-use Rattle.events.proofs.Laws.{report-code-zero, clear-code-zero, valid-new, valid-reported, valid-cleared, valid-emptied}
+use Rattle.events.proofs.Laws.{report-code-zero, clear-code-zero, valid-new, valid-reported, valid-cleared, valid-emptied, emptied-at}
 use Rattle.commands.specs.Numbers.{most-units}
 use Rattle.mailbox.specs.State.{DeviceState, lines-of, with-clock, with-policy, with-logs, with-poison, with-media}
 use Rattle.mailbox.specs.Ending.{logs-left, ended}
@@ -240,14 +240,8 @@ module _ {P : LogState → Type 0} (lasting : Lasting P) where
           widths = λ w. record { policy = w .policy; time = w .time };
         }
       where
-        -- log k of those emptied is log k emptied, also past the last
-        each : (ls : List LogState) (k : ℕ) → P (log-at ls k) → P (log-at (map emptied ls) k)
-        each [] k one = one
-        each (l ∷ ls) zero one = lasting .ended l one
-        each (l ∷ ls) (suc k) one = each ls k one
-
         by-end : (b : Bool) (k : ℕ) → k < 5 → P (log-at (logs-left b (s .logs)) k)
-        by-end true k less = each (s .logs) k (h .logs k less)
+        by-end true k less = subst P (sym (emptied-at (s .logs) k)) (lasting .ended (log-at (s .logs) k) (h .logs k less))
         by-end false k less = h .logs k less
 
     itself-kept : Kept s

@@ -2,8 +2,8 @@
 -- can be put in a record. Assumes nothing.
 use mathlib.Core.Path.{refl, sym, subst}
 use mathlib.Core.Bool.{Bool, true, false}
-use mathlib.Core.List.{List, [], _∷_, map}
-use Prim.Native.Nat.{ℕ, zero, suc, _+_, _^_, _≤_, _<_}
+use mathlib.Core.List.{List, [], _∷_}
+use Prim.Native.Nat.{ℕ, _+_, _^_, _≤_, _<_}
 use native.Mathlib.Omega.{arith}
 use lib.ListN.{getD-replicate}
 use Rattle.poison.specs.Runs.{end, Chain}
@@ -16,6 +16,7 @@ use Rattle.mailbox.specs.Ending.{ended, logs-left}
 use Rattle.mailbox.specs.DeviceCalls.{new-device}
 use Rattle.host_replies.specs.DeviceReplies.{PlainLog, Recordable, Plain}
 use Rattle.poison.proofs.Laws.{chain-length}
+use Rattle.events.proofs.Laws.{emptied-at}
 
 pub recordable : (lo hi : ℕ) (es : List Entry) → Chain lo hi (shapes es) → hi ≤ capacity → Typed es → Recordable es
 recordable lo hi [] c h t = tt
@@ -35,11 +36,6 @@ plain-new volatile persistent small =
       list = record { time = omega arith; entries = tt };
     }
 
-plain-logs : (ls : List LogState) (k : ℕ) → PlainLog (log-at (map emptied ls) k)
-plain-logs [] k = plain-log no-log
-plain-logs (s ∷ ls) zero = plain-log s
-plain-logs (s ∷ ls) (suc k) = plain-logs ls k
-
 -- where a due Sanitize is ended, its logs are emptied (document 02, W-207)
 pub plain-ended : (d : DeviceState) (time : ℕ) → Plain d → Plain (ended d time)
 plain-ended d time p =
@@ -51,5 +47,5 @@ plain-ended d time p =
     }
   where
     by-end : (b : Bool) (k : ℕ) → k < 5 → PlainLog (log-at (logs-left b (d .logs)) k)
-    by-end true k l = plain-logs (d .logs) k
+    by-end true k l = subst PlainLog (sym (emptied-at (d .logs) k)) (plain-log (log-at (d .logs) k))
     by-end false k l = p .logs k l
