@@ -7,7 +7,7 @@ use native.Mathlib.Decide.{ℕ-discrete}
 use lib.Dec.{leb, eqb}
 use borrow.Author.Tests.{le-leb, lt-leb, leb-true, eqb-true, ne-eqb, eq-eqb}
 use Rattle.labels.specs.Labels.{label-size}
-use Rattle.wire.specs.Returns.{started, unsupported, invalid-length, small-buffer, need}
+use Rattle.wire.specs.Returns.{started, busy, media-disabled, unsupported, invalid-length, small-buffer, need}
 use Rattle.commands.specs.Numbers.{mailbox-size}
 use Rattle.wire.proofs.Laws.{either, need-fails, need-holds, need-zero}
 use Rattle.commands.specs.Commands.{commands, known, fits, admission, while-disabled, blocked, first-code}
@@ -167,3 +167,25 @@ four-five n e = four-five-by n (eqb n 4) (eqb n 5) (eqb-true n 4) (eqb-true n 5)
 -- a buffer that has room for every reply has room for one of n bytes
 pub room-for : {n room : ℕ} → n ≤ mailbox-size → mailbox-size ≤ room → n ≤ room
 room-for h k = omega arith
+
+-- ---- while media is disabled
+module _ (op : ℕ) where
+  pub disabled-sanitize : op ≡ 0x4400 → busy ≡ while-disabled op
+  unfolding while-disabled
+  disabled-sanitize e = sym (ap while-disabled e)
+
+  pub disabled-inject : op ≡ 0x4301 → media-disabled ≡ while-disabled op
+  unfolding while-disabled
+  disabled-inject e = sym (ap while-disabled e)
+
+  pub disabled-clear : op ≡ 0x4302 → media-disabled ≡ while-disabled op
+  unfolding while-disabled
+  disabled-clear e = sym (ap while-disabled e)
+
+  pub disabled-get : op ≡ 0x4102 → media-disabled ≡ while-disabled op
+  unfolding while-disabled
+  disabled-get e = sym (ap while-disabled e)
+
+  pub disabled-set : op ≡ 0x4103 → media-disabled ≡ while-disabled op
+  unfolding while-disabled
+  disabled-set e = sym (ap while-disabled e)

@@ -9,10 +9,10 @@ use borrow.Author.Tests.{le-leb, lt-leb}
 use Rattle.wire.specs.Wire.{le, part, same, splice}
 use Rattle.wire.specs.Returns.{invalid-input, invalid-log}
 use Rattle.commands.specs.Numbers.{mailbox-size}
-use Rattle.commands.specs.Reply.{replied, no-reply}
+use Rattle.settings.specs.Reply.{replied, no-reply}
 use Rattle.commands.specs.Commands.{commands}
 use Rattle.commands.specs.EffectsLog.{effects-log, effects-log-size, effects-log-id, get-supported-logs, log-offset, log-length, get-log}
-use Rattle.commands.proofs.Replies.{field-more}
+use Rattle.settings.proofs.Laws.{field-more}
 
 -- the bytes of the source's tables
 abbrev pub effects-bytes : List ℕ

@@ -6,7 +6,7 @@ use native.Mathlib.Omega.{arith}
 use lib.ListN.{length}
 use Rattle.wire.specs.Wire.{le, part, splice}
 use Rattle.commands.specs.Identity.{version, limits, identify}
-use Rattle.commands.proofs.Replies.{field-more}
+use Rattle.settings.proofs.Laws.{field-more}
 
 -- the bytes of the source's tables
 abbrev pub version-bytes : List ℕ

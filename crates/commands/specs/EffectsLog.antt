@@ -6,7 +6,7 @@ use lib.ListN.{length}
 use Rattle.wire.specs.Wire.{le, field, part, same}
 use Rattle.wire.specs.Returns.{invalid-input, invalid-log, need}
 use Rattle.commands.specs.Numbers.{mailbox-size}
-use Rattle.commands.specs.Reply.{Reply, replied, no-reply}
+use Rattle.settings.specs.Reply.{Reply, replied, no-reply}
 use Rattle.commands.specs.Commands.{Command, commands}
 
 -- "The Command Effects Log has 4 bytes a command, opcode then effect, ascending"

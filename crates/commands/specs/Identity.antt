@@ -3,7 +3,7 @@ use Prim.Native.Nat.{ℕ, _+_}
 use mathlib.Core.List.{List, [], _∷_, _++_}
 use Rattle.labels.specs.Labels.{label-size}
 use Rattle.wire.specs.Wire.{le}
-use Rattle.commands.specs.Reply.{Reply, replied}
+use Rattle.settings.specs.Reply.{Reply, replied}
 
 -- "BWFW VERSION 0" and two zeros
 unfoldable pub version : List ℕ

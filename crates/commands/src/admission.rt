@@ -1,11 +1,11 @@
-// The checks before a command's own (document 01, "Return numbers", "Order for a command"; document 02, W-206), and which of two checks decides.
+// The checks before a command's own (document 01, "Return numbers", "Order for a command"; document 02, W-206, and W-207: which commands are refused while media is disabled), and which of two checks decides.
 use wire::returns;
 ghost use mathlib.Core.Path.{_≡_};
 ghost use mathlib.Core.Bool.{_||_};
 ghost use lib.Dec.{eqb, leb};
 ghost use Rattle.wire.specs.Returns.{invalid-length, small-buffer, need};
 ghost use Rattle.labels.specs.Labels.{label-size};
-ghost use Rattle.commands.specs.Commands.{admission};
+ghost use Rattle.commands.specs.Commands.{admission, while-disabled, blocked};
 
 // The first of two return numbers that refuses, 0 where none does: what is checked first decides.
 pub fn first_refusal(first: u16, second: u16) -> u16
@@ -92,4 +92,29 @@ fn four_or_five(length: usize) -> u16
         return returns::SUCCESS;
     }
     returns::INVALID_LENGTH
+}
+
+// The number that a command gets while media is disabled, 0 where it works as ever.
+fn while_disabled(opcode: u16) -> u16
+    ensures { λ r. ⌜ r ≡ while-disabled opcode ⌝ }
+{
+    match opcode {
+        0x4400 => returns::BUSY,
+        0x4301 => returns::MEDIA_DISABLED,
+        0x4302 => returns::MEDIA_DISABLED,
+        0x4102 => returns::MEDIA_DISABLED,
+        0x4103 => returns::MEDIA_DISABLED,
+        _ => returns::SUCCESS,
+    }
+}
+
+// The number that a command gets where media is disabled or not: the check after that of its payload's length.
+pub fn blocked(disabled: bool, opcode: u16) -> u16
+    ensures { λ r. ⌜ r ≡ blocked disabled opcode ⌝ }
+{
+    if disabled {
+        while_disabled(opcode)
+    } else {
+        returns::SUCCESS
+    }
 }

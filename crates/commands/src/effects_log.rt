@@ -5,7 +5,7 @@ ghost use mathlib.Core.Path.{_≡_};
 ghost use Prim.Native.Nat.{_≤_};
 ghost use lib.ListN.{length};
 ghost use Rattle.commands.specs.EffectsLog.{get-supported-logs, get-log};
-ghost use Rattle.commands.specs.Contracts.{Replied};
+ghost use Rattle.settings.specs.Contracts.{Replied};
 
 // Opcode and effect of each command, two bytes each.
 const EFFECTS: [u8; 60] = [

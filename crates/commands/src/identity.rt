@@ -5,7 +5,7 @@ ghost use mathlib.Core.Path.{_≡_};
 ghost use Prim.Native.Nat.{_+_, _≤_};
 ghost use lib.ListN.{length};
 ghost use Rattle.commands.specs.Identity.{identify};
-ghost use Rattle.commands.specs.Contracts.{Replied};
+ghost use Rattle.settings.specs.Contracts.{Replied};
 
 // Identify's bytes from the alignment on.
 const LIMITS: [u8; 29] = [

@@ -7,8 +7,8 @@ use Rattle.poison.proofs.list.PoisonList.Laws as PoisonList
 use Rattle.events.proofs.log.Record.Laws as Record
 use Rattle.events.proofs.log.Log.Laws as Log
 use Rattle.events.proofs.status.Status.Laws as Status
-use Rattle.commands.proofs.clock.Clock.Laws as Clock
-use Rattle.commands.proofs.media.MediaState.Laws as MediaState
+use Rattle.settings.proofs.clock.Clock.Laws as Clock
+use Rattle.settings.proofs.media.MediaState.Laws as MediaState
 use Rattle.mailbox.proofs.device.Device.Laws as Device
 use Rattle.embed.specs.Left.{device-size}
 use Rattle.embed.proofs.Done.Laws as Done

@@ -7,7 +7,7 @@ use Rattle.poison.specs.declared.line_test.LineTest.{LineTest}
 use Rattle.poison.specs.LineTest.{line-test as list-test}
 use Rattle.mailbox.specs.LineStatus.{status-number, status-type, status-of}
 use Rattle.mailbox.specs.State.{DeviceState, lines-of}
-use Rattle.commands.specs.PoisonCommands.{line-of, line-code}
+use Rattle.list_commands.specs.PoisonCommands.{line-of, line-code}
 use Rattle.mailbox.specs.DeviceCalls.{line-test, LineOutcome}
 use Rattle.embed.specs.Left.{LineTold}
 

@@ -29,14 +29,14 @@ use Rattle.mailbox.specs.declared.by_parts.EventParts.{EventParts}
 use Rattle.mailbox.specs.declared.by_parts.MediaLeft.{MediaLeft}
 use Rattle.commands.specs.Numbers.{unit-lines, most-units}
 use Rattle.mailbox.specs.State.{DeviceState, ValidDevice, state-of}
-use Rattle.commands.specs.Vector.{numbered}
+use Rattle.settings.specs.Vector.{numbered}
 use Rattle.mailbox.specs.Ending.{Ends, AfterEnding}
 use Rattle.mailbox.specs.Mailbox.{answer, outcome, area-after}
 use Rattle.mailbox.specs.DeviceCalls.{event-report, media-report, line-test, damage-total}
 use Rattle.mailbox.specs.Contracts.{Answered, EventDone, MediaDone}
 use Rattle.mailbox.specs.ByParts.{AreaAnswered, of-area, of-list, of-injection, of-log, log-at, log-named, device-of, with-log, ListAnswered, InjectAnswered, LogAnswered, SettingsAnswered, EventIn, MediaIn}
-use Rattle.commands.specs.Media.{enabled, due}
-use Rattle.commands.specs.declared.media.MediaState.{MediaState}
+use Rattle.settings.specs.Media.{enabled, due}
+use Rattle.settings.specs.declared.media.MediaState.{MediaState}
 use Rattle.mailbox.proofs.Laws.{ends-none, ends-due, after-command, after-event, after-media, not-area, not-area-sized, other-leaves, numbered-none, command-vector, list-parts-answered, inject-parts-answered, log-parts-answered, settings-parts-answered, event-parts-done, media-parts-done}
 use Rattle.mailbox.proofs.device.Device as DeviceT
 use Rattle.mailbox.proofs.device.Device.Laws as DeviceL

@@ -17,10 +17,10 @@ use Rattle.mailbox.specs.declared.device_calls.MediaAnswer.{MediaAnswer}
 use Rattle.mailbox.specs.State.{DeviceState, state-of}
 use Rattle.mailbox.specs.Mailbox.{answer, area-after}
 use Rattle.mailbox.specs.Contracts.{Answered}
-use Rattle.commands.specs.Vector.{numbered}
+use Rattle.settings.specs.Vector.{numbered}
 use Rattle.mailbox.specs.ByParts.{device-of, with-log}
-use Rattle.commands.specs.Media.{enabled}
-use Rattle.commands.specs.Clock.{unset}
+use Rattle.settings.specs.Media.{enabled}
+use Rattle.settings.specs.Clock.{unset}
 use Rattle.mailbox.specs.DeviceCalls.{LineOutcome}
 use Rattle.embed.specs.declared.Done.{Done}
 use Rattle.embed.specs.declared.Event.{Event}

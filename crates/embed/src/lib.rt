@@ -4,7 +4,6 @@
 // copy away, which is measured and not proved.
 // What a caller owes, and nothing here checks: the device was made by `kulduvost_make` and changed by these functions alone, nothing else uses it during a call, the lengths
 // that come with pointers are true, and no two of the areas handed over overlap.
-use commands::media::MediaState;
 use events::empty;
 use events::status::Status;
 use mailbox::by_parts;
@@ -12,6 +11,7 @@ use mailbox::device::Device;
 use poison::line_test;
 use poison::line_test::LineTest;
 use poison::list;
+use settings::media::MediaState;
 use wire::returns;
 ghost use mathlib.Core.Path.{_≡_};
 ghost use mathlib.Core.Bool.{true, false};

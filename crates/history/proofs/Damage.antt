@@ -11,7 +11,7 @@ use Rattle.wire.proofs.Laws.{and-parts}
 use Rattle.poison.specs.Runs.{run, in-run}
 use Rattle.poison.specs.Paper.{Paper, blank-paper, paper-report, paper-inject, paper-clear}
 use Rattle.mailbox.specs.State.{DeviceState}
-use Rattle.commands.specs.PoisonCommands.{line-of}
+use Rattle.list_commands.specs.PoisonCommands.{line-of}
 use Rattle.mailbox.specs.DeviceCalls as Device
 use Rattle.history.specs.Calls.{Call, command, event-report, media-report, line-test, event-status, damage-total, step, after}
 use Rattle.history.specs.Paper.{write-command, write, history}

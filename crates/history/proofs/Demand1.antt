@@ -1,7 +1,7 @@
 -- Demand 1 over every call: one that is refused leaves the device as the end of a due Sanitize leaves it, and gives nothing beside its number. Assumes nothing.
 use mathlib.Core.Path.{_≡_, refl, _∙_}
 use Rattle.wire.specs.Returns.{Refused}
-use Rattle.commands.specs.Media.{due}
+use Rattle.settings.specs.Media.{due}
 use Rattle.mailbox.specs.State.{DeviceState}
 use Rattle.mailbox.proofs.Laws.{refusal, event-refusal, media-refusal, line-refusal, ended-none}
 use Rattle.history.specs.Calls.{Call, command, event-report, media-report, line-test, event-status, damage-total, step}

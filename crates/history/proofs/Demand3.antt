@@ -18,7 +18,7 @@ use Rattle.poison.specs.State.{PoisonState, empty}
 use Rattle.poison.specs.Paper.{Paper, blank-paper, Agrees}
 use Rattle.poison.proofs.Laws.{consistent-blank, agrees}
 use Rattle.mailbox.specs.State.{DeviceState, lines-of}
-use Rattle.commands.specs.PoisonCommands.{line-code}
+use Rattle.list_commands.specs.PoisonCommands.{line-code}
 use Rattle.mailbox.specs.DeviceCalls as Device
 use Rattle.history.specs.Calls.{Call, step}
 use Rattle.history.specs.Paper.{write, history}

@@ -6,8 +6,8 @@ use mathlib.Core.List.{List, [], _∷_}
 use Prim.Native.Nat.{ℕ, _+_, _≤_}
 use Rattle.wire.specs.Returns.{started}
 use Rattle.events.specs.Emptied.{emptied}
-use Rattle.commands.specs.Media.{enabled, duration, sanitize, due}
-use Rattle.commands.specs.declared.media.MediaState.{MediaState}
+use Rattle.settings.specs.Media.{enabled, duration, sanitize, due}
+use Rattle.settings.specs.declared.media.MediaState.{MediaState}
 use Rattle.mailbox.specs.State.{DeviceState, state-of}
 use Rattle.mailbox.specs.LineStatus.{status-number}
 use Rattle.mailbox.specs.Contracts.{LineDone}

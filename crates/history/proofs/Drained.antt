@@ -15,12 +15,12 @@ use Rattle.events.specs.Drain.{more-bit, clear-read}
 use Rattle.events.proofs.Laws as Logs
 use Rattle.labels.specs.Labels.{label-size}
 use Rattle.commands.specs.Commands.{admission, while-disabled}
-use Rattle.commands.specs.Media.{due}
+use Rattle.settings.specs.Media.{due}
 use Rattle.mailbox.specs.Ending.{ended, AfterEnding}
 use Rattle.events.specs.Clear as Clear
 use Rattle.commands.specs.Numbers.{mailbox-size, event-records}
 use Rattle.mailbox.specs.State.{DeviceState, state-of}
-use Rattle.commands.specs.Vector.{no-vector}
+use Rattle.settings.specs.Vector.{no-vector}
 use Rattle.mailbox.specs.Outcome.{Outcome}
 use Rattle.mailbox.specs.EventCommands.{get-event-records, clear-event-records}
 use Rattle.mailbox.specs.Mailbox.{run-command, answer, outcome}

@@ -24,15 +24,15 @@ use Rattle.events.proofs.Laws.{report-code-zero, clear-code-zero, valid-new, va
 use Rattle.commands.specs.Numbers.{most-units}
 use Rattle.mailbox.specs.State.{DeviceState, lines-of, with-clock, with-policy, with-logs, with-poison, with-media}
 use Rattle.mailbox.specs.Ending.{logs-left, ended}
-use Rattle.commands.specs.declared.media.MediaState.{MediaState}
-use Rattle.commands.specs.Media.{due}
+use Rattle.settings.specs.declared.media.MediaState.{MediaState}
+use Rattle.settings.specs.Media.{due}
 use Rattle.events.specs.Emptied.{emptied}
 use Rattle.mailbox.specs.Outcome.{Outcome}
-use Rattle.commands.specs.declared.clock.Clock.{Clock}
-use Rattle.commands.specs.Clock.{device-time}
-use Rattle.commands.specs.Policy.{set-interrupt-policy}
+use Rattle.settings.specs.declared.clock.Clock.{Clock}
+use Rattle.settings.specs.Clock.{device-time}
+use Rattle.settings.specs.Policy.{set-interrupt-policy}
 use Rattle.mailbox.specs.EventCommands.{clear-event-records}
-use Rattle.commands.specs.PoisonCommands.{line-of, line-code, inject-poison, inject-adds, injection-record, clear-poison}
+use Rattle.list_commands.specs.PoisonCommands.{line-of, line-code, inject-poison, inject-adds, injection-record, clear-poison}
 use Rattle.mailbox.specs.Mailbox.{inject, answer, outcome}
 use Rattle.mailbox.specs.DeviceCalls as Device
 use Rattle.mailbox.proofs.Laws.{Moved, nothing, one-log, settings, the-clock, list-and-log, the-list, the-media, answer-moves, line-inside, media-zero, five-settings}

@@ -13,9 +13,9 @@ use Rattle.events.specs.Clear as Clear
 use Rattle.events.specs.Onward.{StaysHeld, NextGoesOn}
 use Rattle.events.proofs.Laws.{stays-itself, stays-reported, next-reported, next-cleared, emptied-at, each-reported, each-cleared}
 use Rattle.wire.specs.Returns.{started}
-use Rattle.commands.specs.declared.media.MediaState.{MediaState}
-use Rattle.commands.specs.Media.{due}
-use Rattle.commands.specs.PoisonCommands.{inject-adds}
+use Rattle.settings.specs.declared.media.MediaState.{MediaState}
+use Rattle.settings.specs.Media.{due}
+use Rattle.list_commands.specs.PoisonCommands.{inject-adds}
 use Rattle.mailbox.specs.State.{DeviceState, lines-of}
 use Rattle.mailbox.specs.Ending.{logs-left, ended}
 use Rattle.mailbox.specs.Outcome.{Outcome}

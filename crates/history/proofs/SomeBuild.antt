@@ -14,18 +14,18 @@ use Rattle.poison.specs.Runs.{keeps}
 use Rattle.poison.specs.State.{Entry, entry}
 use Rattle.poison.specs.LineTest as Line
 use Rattle.wire.specs.Returns.{Refused}
-use Rattle.commands.specs.Media.{due}
+use Rattle.settings.specs.Media.{due}
 use Rattle.mailbox.specs.LineStatus.{status-number, status-type, status-of}
 use Rattle.mailbox.specs.declared.line_status.LineStatus.{LineStatus}
 use Rattle.mailbox.specs.declared.line_status.LineStatus.the-variants.{Unknown, Disabled}
 use Rattle.mailbox.specs.Ending.{ended, Ends}
 use Rattle.mailbox.specs.State.{DeviceState, ValidDevice, lines-of, state-of}
-use Rattle.commands.specs.PoisonCommands.{line-of, line-code}
+use Rattle.list_commands.specs.PoisonCommands.{line-of, line-code}
 use Rattle.mailbox.specs.Mailbox.{outcome, area-after}
 use Rattle.mailbox.specs.DeviceCalls as Device
-use Rattle.commands.specs.Vector.{numbered}
+use Rattle.settings.specs.Vector.{numbered}
 use Rattle.mailbox.specs.declared.device.Device.{Device}
-use Rattle.commands.specs.declared.vector.Vector.the-variants.{None}
+use Rattle.settings.specs.declared.vector.Vector.the-variants.{None}
 use Rattle.mailbox.proofs.Laws.{carries-numbered, refusal, event-refusal, media-refusal, ended-none}
 use Rattle.history.specs.Builds.{Build, Meets, RefusesAll, FixedReply, ChangesNothing, KeepsFirst, of-media}
 use Rattle.wire.proofs.Laws.{either}

@@ -17,9 +17,9 @@ use Rattle.mailbox.specs.State.{DeviceState, lines-of}
 use Rattle.mailbox.specs.Ending.{ended}
 use Rattle.mailbox.specs.Outcome.{Outcome}
 use Rattle.commands.specs.Commands.{first-code}
-use Rattle.commands.specs.Clock.{device-time}
+use Rattle.settings.specs.Clock.{device-time}
 use Rattle.mailbox.specs.EventCommands.{clear-event-records}
-use Rattle.commands.specs.PoisonCommands.{line-of, line-code, inject-poison, clear-poison}
+use Rattle.list_commands.specs.PoisonCommands.{line-of, line-code, inject-poison, clear-poison}
 use Rattle.mailbox.specs.Mailbox.{run-command, answer}
 use Rattle.mailbox.specs.DeviceCalls as Device
 use Rattle.mailbox.proofs.Laws.{Moved, nothing, one-log, settings, the-clock, list-and-log, the-list, the-media, run-moves, line-inside, media-zero, injection-list}

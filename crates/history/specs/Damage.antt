@@ -8,7 +8,7 @@ use Rattle.wire.specs.Wire.{field}
 use Rattle.poison.specs.Runs.{run, in-run}
 use Rattle.mailbox.specs.State.{DeviceState}
 use Rattle.history.specs.Calls.{Call, command, event-report, media-report, line-test, event-status, damage-total, step}
-use Rattle.commands.specs.PoisonCommands.{line-of}
+use Rattle.list_commands.specs.PoisonCommands.{line-of}
 
 -- whether a call, answered with a number, reports line k damaged: an accepted media report over it, or an Inject Poison of it answered Success
 abbrev pub reports : Call → ℕ → ℕ → Bool

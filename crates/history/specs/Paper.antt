@@ -7,7 +7,7 @@ use lib.Dec.{eqb}
 use Rattle.wire.specs.Wire.{field}
 use Rattle.poison.specs.Paper.{Paper, paper-report, paper-inject, paper-clear}
 use Rattle.mailbox.specs.State.{DeviceState}
-use Rattle.commands.specs.PoisonCommands.{line-of}
+use Rattle.list_commands.specs.PoisonCommands.{line-of}
 use Rattle.history.specs.Calls.{Call, command, event-report, media-report, line-test, event-status, damage-total, step}
 
 -- a command answered 0000h: Inject Poison 4301h and Clear Poison 4302h, whose address is the payload's first 8 bytes; no other changes the paper

@@ -4,8 +4,8 @@ use mathlib.Core.Path.{_≡_}
 use mathlib.Core.Bool.{false}
 use mathlib.Core.List.{[]}
 use Rattle.mailbox.specs.State.{DeviceState}
-use Rattle.commands.specs.Vector.{no-vector}
-use Rattle.commands.specs.Media.{due}
+use Rattle.settings.specs.Vector.{no-vector}
+use Rattle.settings.specs.Media.{due}
 use Rattle.mailbox.specs.Ending.{ended}
 use Rattle.mailbox.specs.Mailbox.{outcome}
 use Rattle.mailbox.specs.DeviceCalls as Device

@@ -13,7 +13,7 @@ use Rattle.events.specs.Report.{stamped}
 use Rattle.events.specs.Emptied.{emptied}
 use Rattle.labels.specs.Labels.{zero-area}
 use Rattle.commands.specs.EffectsLog.{effects-log-id}
-use Rattle.commands.specs.Media.{enabled}
+use Rattle.settings.specs.Media.{enabled}
 use Rattle.mailbox.specs.State.{DeviceState, with-logs, with-poison, with-media}
 use Rattle.mailbox.specs.Mailbox.{outcome}
 use Rattle.mailbox.specs.DeviceCalls as Device

@@ -14,7 +14,7 @@ use Rattle.poison.proofs.Laws.{length-records}
 use Rattle.mailbox.specs.declared.device.Device.{Device}
 use Rattle.commands.specs.Numbers.{poison-records}
 use Rattle.mailbox.specs.State.{lines-of, state-of}
-use Rattle.commands.specs.PoisonCommands.{list-reply}
+use Rattle.list_commands.specs.PoisonCommands.{list-reply}
 use Rattle.host.specs.Walk.{halves, first-half}
 use Rattle.host.specs.Walking.{held, walk-of, Askable, RangeAsked, Copied, Wrote}
 use Rattle.host.proofs.WalkLaws.{two-lines, walk-halved, walk-whole}

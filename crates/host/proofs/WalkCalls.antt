@@ -17,7 +17,7 @@ use Rattle.mailbox.specs.declared.device.Answer.{Answer}
 use Rattle.mailbox.specs.Outcome.{Outcome}
 use Rattle.mailbox.specs.State.{ValidDevice, lines-of, state-of}
 use Rattle.mailbox.specs.Mailbox.{outcome}
-use Rattle.commands.specs.PoisonCommands.{line-of, range-code, list-reply}
+use Rattle.list_commands.specs.PoisonCommands.{line-of, range-code, list-reply}
 use Rattle.mailbox.specs.Contracts.{Answered}
 use Rattle.mailbox.proofs.Laws.{range-ends}
 use Rattle.wire.specs.declared.done.Done.{Done}

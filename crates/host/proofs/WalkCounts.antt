@@ -19,7 +19,7 @@ use Rattle.poison.proofs.Laws.{chain-sharing, length-records, chain-length}
 use Rattle.mailbox.specs.declared.device.Device.{Device}
 use Rattle.commands.specs.Numbers.{poison-records}
 use Rattle.mailbox.specs.State.{ValidDevice, lines-of, state-of}
-use Rattle.commands.specs.PoisonCommands.{line-of}
+use Rattle.list_commands.specs.PoisonCommands.{line-of}
 use Rattle.host.specs.Walk.{halves, walked, walk}
 use Rattle.host.specs.Walking.{held, walk-of, walk-answer}
 use Rattle.host.proofs.WalkLaws.{two-lines, walk-halved, walk-whole}

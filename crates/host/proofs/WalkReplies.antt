@@ -21,7 +21,7 @@ use Rattle.commands.specs.Numbers.{poison-records}
 use Rattle.mailbox.specs.Outcome.{Outcome}
 use Rattle.mailbox.specs.State.{lines-of, state-of}
 use Rattle.mailbox.specs.Mailbox.{outcome}
-use Rattle.commands.specs.PoisonCommands.{line-of, range-code, list-flags, list-header, list-reply, get-poison-list}
+use Rattle.list_commands.specs.PoisonCommands.{line-of, range-code, list-flags, list-header, list-reply, get-poison-list}
 use Rattle.wire.specs.declared.done.Done.{Done}
 use Rattle.wire.specs.Done.{Written, Writes, written, refused}
 use Rattle.host_requests.specs.Requests.{payload, countable, build}

@@ -16,7 +16,7 @@ use Rattle.poison.proofs.Laws.{length-records}
 use Rattle.mailbox.specs.declared.device.Device.{Device}
 use Rattle.commands.specs.Numbers.{poison-records}
 use Rattle.mailbox.specs.State.{ValidDevice, lines-of, state-of}
-use Rattle.commands.specs.PoisonCommands.{aligned, line-of, range-code}
+use Rattle.list_commands.specs.PoisonCommands.{aligned, line-of, range-code}
 use Rattle.wire.specs.declared.done.Done.{Done}
 use Rattle.wire.specs.Done.{Written, written, refused, Writes}
 use Rattle.host.specs.Walk.{Lists, read-records}

@@ -13,7 +13,7 @@ use Rattle.mailbox.specs.declared.device.Device.{Device}
 use Rattle.commands.specs.Numbers.{poison-records}
 use Rattle.mailbox.specs.State.{DeviceState, ValidDevice, lines-of, state-of}
 use Rattle.mailbox.specs.Mailbox.{outcome}
-use Rattle.commands.specs.PoisonCommands.{line-of, range-code, list-reply}
+use Rattle.list_commands.specs.PoisonCommands.{line-of, range-code, list-reply}
 use Rattle.wire.specs.Done.{Written, written, refused}
 use Rattle.host_requests.specs.Requests.{get-poison-list, opcode, payload}
 use Rattle.host.specs.Walk.{walk}

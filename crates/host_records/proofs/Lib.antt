@@ -1,6 +1,4 @@
 -- The laws of crate `host_records` that more than one proof cites, by subject. A crate above cites Laws alone.
 pub mod BufferLaws
 pub mod HostLaws
-pub mod ReplyLaws
-pub mod ReadLaws
 pub mod Laws

@@ -1,6 +1,4 @@
--- The definitions that the contracts of crate `host_records` cite, by subject: the line of a call that writes a buffer, and the four records.
+-- The definitions that the contracts of crate `host_records` cite, by subject: the line of a call that writes a buffer, and the records RQ and WK.
 pub mod Lines
 pub mod HostWalks
 pub mod HostRequests
-pub mod HostReplies
-pub mod HostRewrites

@@ -18,15 +18,15 @@ use Rattle.events.proofs.Laws.{read-log as log-read}
 use Rattle.commands.specs.Numbers.{mailbox-size, event-records}
 use Rattle.mailbox.specs.State.{DeviceState, lines-of}
 use Rattle.mailbox.specs.Ending.{ended}
-use Rattle.commands.specs.Reply.{no-reply, replied as replied-bytes}
+use Rattle.settings.specs.Reply.{no-reply, replied as replied-bytes}
 use Rattle.mailbox.specs.Outcome.{Outcome, changes}
 use Rattle.commands.specs.Commands.{commands}
-use Rattle.commands.specs.Clock.{device-time, get-timestamp}
-use Rattle.commands.specs.Policy.{get-policy}
+use Rattle.settings.specs.Clock.{device-time, get-timestamp}
+use Rattle.settings.specs.Policy.{get-policy}
 use Rattle.commands.specs.EffectsLog.{effects-log, effects-log-id, effects-log-size, log-offset, log-length, get-supported-logs, get-log}
 use Rattle.commands.specs.Identity.{version, limits, identify}
 use Rattle.mailbox.specs.EventCommands.{get-event-records, clear-event-records}
-use Rattle.commands.specs.PoisonCommands.{line-of, range-code, list-reply, get-poison-list, inject-adds}
+use Rattle.list_commands.specs.PoisonCommands.{line-of, range-code, list-reply, get-poison-list, inject-adds}
 use Rattle.mailbox.specs.Mailbox.{run-command, inject, outcome}
 use Rattle.mailbox.proofs.Laws.{accepted-runs}
 use Rattle.host_replies.specs.declared.counted.Kind.the-variants.{SupportedLogs}

@@ -10,7 +10,7 @@ use Rattle.poison.specs.Runs.{end, Chain}
 use Rattle.poison.specs.State.{Entry, shape, shapes, capacity, Typed}
 use Rattle.events.specs.Log.{LogState, new, no-log, log-at}
 use Rattle.events.specs.Emptied.{emptied}
-use Rattle.commands.specs.Media.{due}
+use Rattle.settings.specs.Media.{due}
 use Rattle.mailbox.specs.State.{DeviceState}
 use Rattle.mailbox.specs.Ending.{ended, logs-left}
 use Rattle.mailbox.specs.DeviceCalls.{new-device}

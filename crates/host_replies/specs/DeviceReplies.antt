@@ -17,9 +17,9 @@ use Rattle.labels.specs.Labels.{label-size}
 use Rattle.commands.specs.Numbers.{event-records, poison-records}
 use Rattle.mailbox.specs.State.{DeviceState}
 use Rattle.commands.specs.Identity.{version}
-use Rattle.commands.specs.Clock.{device-time}
+use Rattle.settings.specs.Clock.{device-time}
 use Rattle.commands.specs.EffectsLog.{effects-log, effects-log-id, effects-log-size, log-offset, log-length}
-use Rattle.commands.specs.PoisonCommands.{line-of, list-flags}
+use Rattle.list_commands.specs.PoisonCommands.{line-of, list-flags}
 use Rattle.host_replies.specs.declared.counted.Kind.{Kind}
 use Rattle.host_replies.specs.declared.counted.Kind.the-variants.{EventRecords, SupportedLogs, PoisonList}
 use Rattle.host_replies.specs.declared.reply.EventFields.{EventFields}

@@ -17,7 +17,7 @@ use Rattle.commands.specs.Numbers.{mailbox-size}
 use Rattle.mailbox.specs.State.{DeviceState, with-policy}
 use Rattle.mailbox.specs.Ending.{ended}
 use Rattle.mailbox.specs.Outcome.{changes, refused}
-use Rattle.commands.specs.Policy.{set-policy}
+use Rattle.settings.specs.Policy.{set-policy}
 use Rattle.mailbox.specs.Mailbox.{outcome}
 use Rattle.mailbox.proofs.Laws.{modes-known}
 use Rattle.host_requests.specs.Requests.{Request, clear-event-records, set-event-interrupt-policy, countable, opcode, payload}

@@ -23,16 +23,16 @@ use Rattle.labels.specs.Labels.{label-size}
 use Rattle.commands.specs.Numbers.{mailbox-size, event-records}
 use Rattle.mailbox.specs.State.{DeviceState, lines-of, with-policy, with-logs, with-poison}
 use Rattle.mailbox.specs.Ending.{ended}
-use Rattle.commands.specs.Policy.{known-modes, set-policy, set-interrupt-policy}
-use Rattle.commands.specs.Reply.{replied, no-reply}
+use Rattle.settings.specs.Policy.{known-modes, set-policy, set-interrupt-policy}
+use Rattle.settings.specs.Reply.{replied, no-reply}
 use Rattle.mailbox.specs.Outcome.{Outcome, reads, changes, refused}
 use Rattle.commands.specs.Commands.{commands, admission, while-disabled, blocked}
-use Rattle.commands.specs.Clock as Clock
+use Rattle.settings.specs.Clock as Clock
 use Rattle.mailbox.specs.EventCommands as Events
 use Rattle.commands.specs.EffectsLog as Logs
-use Rattle.commands.specs.PoisonCommands as Poison
-use Rattle.commands.specs.PoisonCommands.{ListChange}
-use Rattle.commands.specs.Clock.{device-time}
+use Rattle.list_commands.specs.PoisonCommands as Poison
+use Rattle.list_commands.specs.PoisonCommands.{ListChange}
+use Rattle.settings.specs.Clock.{device-time}
 use Rattle.poison.specs.Runs.{slots}
 use Rattle.poison.specs.State.{PoisonState, covers}
 use Rattle.poison.specs.Inject.{with-entry}

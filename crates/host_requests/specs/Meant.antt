@@ -18,15 +18,15 @@ use Rattle.labels.specs.Labels.{label-size}
 use Rattle.commands.specs.Numbers.{mailbox-size, event-records}
 use Rattle.mailbox.specs.State.{DeviceState, lines-of, with-clock, with-policy, with-logs, with-poison}
 use Rattle.mailbox.specs.Ending.{ended}
-use Rattle.commands.specs.Reply.{Reply, replied, no-reply}
+use Rattle.settings.specs.Reply.{Reply, replied, no-reply}
 use Rattle.mailbox.specs.Outcome.{Outcome, reads, changes, refused}
-use Rattle.commands.specs.Clock.{device-time}
-use Rattle.commands.specs.Clock as Clock
-use Rattle.commands.specs.Policy.{get-policy, known-modes, set-policy}
+use Rattle.settings.specs.Clock.{device-time}
+use Rattle.settings.specs.Clock as Clock
+use Rattle.settings.specs.Policy.{get-policy, known-modes, set-policy}
 use Rattle.commands.specs.EffectsLog.{effects-log, effects-log-id, effects-log-size, log-offset, log-length}
 use Rattle.commands.specs.EffectsLog as Logs
 use Rattle.commands.specs.Identity as Identity
-use Rattle.commands.specs.PoisonCommands.{line-of, line-code, range-code, list-reply, injection-record}
+use Rattle.list_commands.specs.PoisonCommands.{line-of, line-code, range-code, list-reply, injection-record}
 use Rattle.commands.specs.Commands.{admission}
 use Rattle.mailbox.specs.DeviceCalls.{event-answer}
 use Rattle.mailbox.specs.Mailbox.{reports, outcome}

@@ -13,19 +13,19 @@ use Rattle.poison.specs.State as P
 use Rattle.poison.specs.declared.list.PoisonList.{PoisonList}
 use Rattle.events.specs.Log as E
 use Rattle.events.specs.declared.log.Log.{Log}
-use Rattle.commands.specs.declared.clock.Clock.{Clock}
-use Rattle.commands.specs.declared.media.MediaState.{MediaState}
+use Rattle.settings.specs.declared.clock.Clock.{Clock}
+use Rattle.settings.specs.declared.media.MediaState.{MediaState}
 use Rattle.mailbox.specs.declared.device.Device.{Device}
 use Rattle.mailbox.specs.declared.device.Answer.{Answer}
-use Rattle.commands.specs.declared.vector.Vector.the-variants.{None}
+use Rattle.settings.specs.declared.vector.Vector.the-variants.{None}
 use Rattle.commands.specs.Numbers.{unit-lines}
 use Rattle.mailbox.specs.State.{DeviceState, ValidDevice, state-of}
-use Rattle.commands.specs.Reply.{Reply}
+use Rattle.settings.specs.Reply.{Reply}
 use Rattle.mailbox.specs.Outcome.{Outcome, reads, changes, refused}
 use Rattle.commands.specs.Commands.{first-code}
 use Rattle.mailbox.specs.Mailbox.{run-command, answer}
 use Rattle.mailbox.specs.Contracts.{Answered}
-use Rattle.commands.proofs.Laws.{carries-none}
+use Rattle.settings.proofs.Laws.{carries-none}
 
 -- an answer to an equal outcome
 equal-outcome : {o o′ : Outcome} {d : Device} {r : Answer} {before after : List ℕ} → o ≡ o′ → Answered o′ d r before after → Answered o d r before after

@@ -12,15 +12,15 @@ use Rattle.events.specs.Drain as Drain
 use Rattle.events.specs.Status as Status
 use Rattle.labels.specs.Labels.{get-labels, set-code, set-labels}
 use Rattle.commands.specs.Commands.{commands, admission, while-disabled, first-code}
-use Rattle.commands.specs.Clock.{device-time, get-timestamp, set-timestamp}
-use Rattle.commands.specs.Media.{rows, duration, sanitize, due}
-use Rattle.commands.specs.Policy.{setting, get-policy, known-modes, set-policy, set-interrupt-policy}
+use Rattle.settings.specs.Clock.{device-time, get-timestamp, set-timestamp}
+use Rattle.settings.specs.Media.{rows, duration, sanitize, due}
+use Rattle.settings.specs.Policy.{setting, get-policy, known-modes, set-policy, set-interrupt-policy}
 use Rattle.commands.specs.EffectsLog.{effects-log, effects-log-id, get-supported-logs, get-log}
 use Rattle.commands.specs.Identity.{version, limits, identify}
 use Rattle.mailbox.specs.EventCommands.{get-event-records, clear-event-records}
-use Rattle.commands.specs.PoisonCommands.{line-code, range-code, inject-poison, inject-adds, injection-record, clear-poison, list-flags, list-header, list-reply, get-poison-list}
+use Rattle.list_commands.specs.PoisonCommands.{line-code, range-code, inject-poison, inject-adds, injection-record, clear-poison, list-flags, list-header, list-reply, get-poison-list}
 use Rattle.mailbox.specs.Mailbox.{run-command, inject, answer, area-after}
-use Rattle.commands.specs.Vector as Vector
+use Rattle.settings.specs.Vector as Vector
 use Rattle.mailbox.specs.DeviceCalls as Device
 
 -- to unfold this is to unfold every definition of the line below

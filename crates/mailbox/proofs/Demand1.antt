@@ -22,24 +22,24 @@ use Rattle.mailbox.specs.declared.device.Made.{Made}
 use Rattle.mailbox.specs.declared.device_calls.EventAnswer.{EventAnswer}
 use Rattle.mailbox.specs.declared.device_calls.MediaAnswer.{MediaAnswer}
 use Rattle.mailbox.specs.declared.device_calls.LineAnswer.{LineAnswer}
-use Rattle.commands.specs.declared.vector.Vector.the-variants.{None}
-use Rattle.commands.specs.Vector.{no-vector, raised}
+use Rattle.settings.specs.declared.vector.Vector.the-variants.{None}
+use Rattle.settings.specs.Vector.{no-vector, raised}
 use Rattle.mailbox.specs.Contracts.{Answered, Makes, EventDone, MediaDone, LineDone}
 use Rattle.wire.specs.Returns.{invalid-input, started, Refused}
 use Rattle.wire.proofs.Laws.{either}
 use Rattle.commands.specs.Numbers.{most-units}
-use Rattle.commands.specs.Reply.{Reply}
+use Rattle.settings.specs.Reply.{Reply}
 use Rattle.mailbox.specs.Outcome.{Outcome, reads, changes}
-use Rattle.commands.specs.Clock.{device-time}
-use Rattle.commands.specs.Policy.{set-interrupt-policy}
+use Rattle.settings.specs.Clock.{device-time}
+use Rattle.settings.specs.Policy.{set-interrupt-policy}
 use Rattle.mailbox.specs.EventCommands.{clear-event-records}
-use Rattle.commands.specs.PoisonCommands.{ListChange, line-of, line-code, inject-poison, inject-adds, clear-poison}
+use Rattle.list_commands.specs.PoisonCommands.{ListChange, line-of, line-code, inject-poison, inject-adds, clear-poison}
 use Rattle.mailbox.specs.Mailbox.{area-after, inject, answer, outcome, changes-policy, changes-list}
 use Rattle.mailbox.specs.DeviceCalls.{new-device, MakeOutcome, make, event-answer, event-report, media-code, MediaOutcome, media-answer, media-report, LineOutcome, line-test}
 use Rattle.mailbox.proofs.AreaAnswers.{refusal-leaves}
 use Rattle.mailbox.proofs.Moving.{Silent, Moved, nothing, one-log, settings, the-clock, list-and-log, the-list, the-media, answer-moves}
-use Rattle.commands.proofs.Laws.{refused-set-changes-nothing}
-use Rattle.commands.proofs.Laws.{raised-later}
+use Rattle.settings.proofs.Laws.{refused-set-changes-nothing}
+use Rattle.settings.proofs.Laws.{raised-later}
 
 -- a refusal comes with no reply, the state as it was and no vector
 pub record Refuses (d : DeviceState) (o : Outcome) : Type 0 where

@@ -20,18 +20,18 @@ use Rattle.mailbox.specs.declared.device.Device.{Device}
 use Rattle.wire.specs.Returns.{success, invalid-input, need}
 use Rattle.commands.specs.Numbers.{most-units}
 use Rattle.mailbox.specs.State.{DeviceState, ValidDevice, state-of, lines-of, with-logs, with-poison}
-use Rattle.commands.specs.Clock.{device-time}
-use Rattle.commands.specs.PoisonCommands.{line-of, line-code, range-code}
+use Rattle.settings.specs.Clock.{device-time}
+use Rattle.list_commands.specs.PoisonCommands.{line-of, line-code, range-code}
 use Rattle.mailbox.specs.DeviceCalls.{new-device, make, MakeOutcome, event-answer, media-code, media-answer, MediaOutcome, line-test, LineOutcome}
 use Rattle.mailbox.specs.LineStatus.{status-number, status-type, status-of}
 use Rattle.mailbox.specs.declared.line_status.LineStatus.{LineStatus}
 use Rattle.mailbox.specs.declared.line_status.LineStatus.the-variants.{Unknown, Disabled}
-use Rattle.commands.specs.Vector.{no-vector, numbered, raised}
+use Rattle.settings.specs.Vector.{no-vector, numbered, raised}
 use Rattle.mailbox.specs.Contracts.{Makes, EventDone, MediaDone, LineDone}
 use Rattle.wire.proofs.Laws.{need-fails, need-holds, need-zero}
-use Rattle.commands.proofs.Laws.{range-ends}
+use Rattle.list_commands.proofs.Laws.{range-ends}
 use Rattle.mailbox.proofs.Answers.{valid-device}
-use Rattle.commands.proofs.Laws.{carries-numbered, carries-equal, raised-later}
+use Rattle.settings.proofs.Laws.{carries-numbered, carries-equal, raised-later}
 
 -- a check that refuses gives its number, whatever follows
 need-refuses : (t : Bool) (code rest : ℕ) → code ≡ need t invalid-input 0 → (code ≡ 0 → ⊥) → code ≡ need t invalid-input rest

@@ -8,8 +8,8 @@ use Rattle.events.specs.Emptied.{emptied, EmptiesAll}
 use Rattle.events.specs.Log.{LogState, log-at}
 use Rattle.events.proofs.Laws.{emptied-at}
 use Rattle.events.specs.declared.log.Log.{Log}
-use Rattle.commands.specs.Media.{enabled, due}
-use Rattle.commands.specs.declared.media.MediaState.{MediaState}
+use Rattle.settings.specs.Media.{enabled, due}
+use Rattle.settings.specs.declared.media.MediaState.{MediaState}
 use Rattle.mailbox.specs.declared.device.Device.{Device}
 use Rattle.mailbox.specs.State.{DeviceState, ValidDevice, state-of, with-logs, with-media}
 use Rattle.mailbox.specs.Ending.{found, ended, Ends, AfterEnding}

@@ -20,7 +20,7 @@ pub use Rattle.mailbox.proofs.Accepted.{admitted-runs, allowed-runs, ac
 -- these cases.
 pub use Rattle.mailbox.proofs.Moving.{Moved, nothing, one-log, settings, the-clock, list-and-log, the-list, the-media, run-moves, answer-moves}
 -- An address that the checks of a line do not refuse is that of a line of the device; a range that they do not refuse ends on the device.
-pub use Rattle.commands.proofs.Laws.{line-inside, range-ends}
+pub use Rattle.list_commands.proofs.Laws.{line-inside, range-ends}
 -- A media report that its checks do not refuse is of a type of three bits and of lines of the device.
 pub use Rattle.mailbox.proofs.DeviceAnswers.{media-zero}
 -- The answer of a function over parts, at the parts of a valid device, is that device's answer, with the part that follows in its place. For the two of one log: where the log was taken
@@ -31,7 +31,7 @@ pub use Rattle.mailbox.proofs.PartAnswers.{list-parts-answered, inject-
 pub use Rattle.mailbox.proofs.AreaAnswers.{not-area, not-area-sized, other-leaves, refusal-leaves}
 -- An answer with an equal vector. None is the case of number 0; the case of a number has that number, and is none where the number is 0.
 pub use Rattle.mailbox.proofs.PartAnswers.{command-vector}
-pub use Rattle.commands.proofs.Laws.{numbered-none, carries-numbered}
+pub use Rattle.settings.proofs.Laws.{numbered-none, carries-numbered}
 -- W-204, of the list: an Inject Poison answers the number and leaves the list that it would without its event report; of the rest of the device only the logs move,
 -- where it adds an entry, by a report of its record to log 0 (`Injected`). One that adds an entry is answered Success, and the entry is there, whatever the logs hold (`Stands`).
 pub use Rattle.mailbox.proofs.Raising.{Injected, logs-told, injection-list, Stands, injection-stands}
@@ -51,7 +51,7 @@ pub use Rattle.mailbox.proofs.Reserved.{length-clear-refused, reserved-
 -- W-205, Set Event Interrupt Policy: one with a mode of 2 or 3 in any byte given is 0002h and leaves the device, and one with modes 0 and 1 alone makes the settings.
 pub use Rattle.mailbox.proofs.Reserved.{mode-refused, modes-accepted}
 -- The modes of all bytes are known exactly where that of each is. After a Set Event Interrupt Policy, refused or not, five settings are five.
-pub use Rattle.commands.proofs.Laws.{mode-known, modes-known, five-settings}
+pub use Rattle.settings.proofs.Laws.{mode-known, modes-known, five-settings}
 -- W-206, the area: a command that is lent one that has not 4,096 bytes is 0100h and leaves the device, whatever the command, the payload and the reply buffer; so one that is answered Success was
 -- lent one that has.
 pub use Rattle.mailbox.proofs.Labels.{wrong-area-refused, accepted-area}

@@ -7,14 +7,15 @@ use Rattle.poison.specs.State.{ValidList, state-of}
 use Rattle.poison.specs.declared.list.PoisonList.{PoisonList}
 use Rattle.wire.specs.declared.done.Done.{Done}
 use Rattle.mailbox.specs.declared.device.Device.{Device}
-use Rattle.commands.specs.declared.vector.Vector.the-variants.{None}
+use Rattle.settings.specs.declared.vector.Vector.the-variants.{None}
 use Rattle.commands.specs.Numbers.{unit-lines}
 use Rattle.mailbox.specs.State as D
 use Rattle.mailbox.specs.State.{ValidDevice}
 use Rattle.mailbox.specs.Outcome.{reads}
 use Rattle.mailbox.specs.Mailbox.{changes-list}
-use Rattle.commands.specs.PoisonCommands.{ListChange, get-poison-list}
-use Rattle.commands.specs.Contracts.{Replied, ListDone}
+use Rattle.list_commands.specs.PoisonCommands.{ListChange, get-poison-list}
+use Rattle.settings.specs.Contracts.{Replied}
+use Rattle.list_commands.specs.Contracts.{ListDone}
 use Rattle.mailbox.specs.Contracts.{Answered}
 use Rattle.mailbox.proofs.Answers.{read-answer, change-answer, same-list, valid-device}
 

@@ -16,15 +16,15 @@ use Rattle.events.proofs.Laws.{refused-get-replies-nothing}
 use Rattle.labels.specs.Labels.{get-labels, set-code}
 use Rattle.labels.proofs.Laws.{get-refused}
 use Rattle.commands.specs.Numbers.{mailbox-size}
-use Rattle.commands.specs.Reply.{Reply, replied, no-reply}
+use Rattle.settings.specs.Reply.{Reply, replied, no-reply}
 use Rattle.commands.specs.EffectsLog.{effects-log-size, effects-log-id, log-offset, log-length, get-supported-logs, get-log}
 use Rattle.commands.specs.Identity.{identify}
 use Rattle.commands.specs.Commands.{first-code}
-use Rattle.commands.specs.Clock.{device-time, get-timestamp}
-use Rattle.commands.specs.declared.clock.Clock.{Clock}
-use Rattle.commands.specs.declared.media.MediaState.{MediaState}
-use Rattle.commands.specs.Policy.{get-policy, set-interrupt-policy}
-use Rattle.commands.specs.PoisonCommands.{range-code, get-poison-list, clear-poison}
+use Rattle.settings.specs.Clock.{device-time, get-timestamp}
+use Rattle.settings.specs.declared.clock.Clock.{Clock}
+use Rattle.settings.specs.declared.media.MediaState.{MediaState}
+use Rattle.settings.specs.Policy.{get-policy, set-interrupt-policy}
+use Rattle.list_commands.specs.PoisonCommands.{range-code, get-poison-list, clear-poison}
 use Rattle.mailbox.specs.State.{DeviceState, lines-of, with-clock, with-media}
 use Rattle.mailbox.specs.Outcome.{Outcome, reads, changes}
 use Rattle.mailbox.specs.EventCommands.{get-event-records, clear-event-records}

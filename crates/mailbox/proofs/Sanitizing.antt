@@ -12,8 +12,8 @@ use lib.ListN.{length}
 use borrow.Author.Tests.{le-leb, lt-leb, ne-eqb}
 use Rattle.wire.specs.Returns.{success, started, busy, media-disabled, need}
 use Rattle.commands.specs.Commands.{admission, while-disabled, blocked, first-code}
-use Rattle.commands.specs.Media.{duration, sanitize, due}
-use Rattle.commands.specs.PoisonCommands.{line-of, line-code}
+use Rattle.settings.specs.Media.{duration, sanitize, due}
+use Rattle.list_commands.specs.PoisonCommands.{line-of, line-code}
 use Rattle.commands.proofs.Laws.{first-admitted, first-zero, first-not-started}
 use Rattle.mailbox.specs.State.{DeviceState, lines-of, with-media}
 use Rattle.mailbox.specs.Ending.{ended}

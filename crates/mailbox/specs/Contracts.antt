@@ -15,7 +15,7 @@ use Rattle.mailbox.specs.declared.device_calls.EventAnswer.{EventAnswer}
 use Rattle.mailbox.specs.declared.device_calls.MediaAnswer.{MediaAnswer}
 use Rattle.mailbox.specs.declared.device_calls.LineAnswer.{LineAnswer}
 use Rattle.mailbox.specs.State.{ValidDevice, state-of}
-use Rattle.commands.specs.Vector.{Carries}
+use Rattle.settings.specs.Vector.{Carries}
 use Rattle.mailbox.specs.LineStatus.{status-number, status-type}
 use Rattle.mailbox.specs.Outcome.{Outcome}
 use Rattle.mailbox.specs.DeviceCalls.{MakeOutcome, EventOutcome, MediaOutcome, LineOutcome}

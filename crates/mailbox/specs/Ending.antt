@@ -5,8 +5,8 @@ use mathlib.Core.Bool.{Bool, true, false}
 use mathlib.Core.List.{List, map}
 use Rattle.events.specs.Log.{LogState}
 use Rattle.events.specs.Emptied.{emptied}
-use Rattle.commands.specs.Media.{enabled, due}
-use Rattle.commands.specs.declared.media.MediaState.{MediaState}
+use Rattle.settings.specs.Media.{enabled, due}
+use Rattle.settings.specs.declared.media.MediaState.{MediaState}
 use Rattle.mailbox.specs.declared.device.Device.{Device}
 use Rattle.mailbox.specs.State.{DeviceState, ValidDevice, state-of, with-logs, with-media}
 

@@ -12,13 +12,13 @@ use Rattle.mailbox.specs.State.{DeviceState, lines-of, with-clock, with-
 use Rattle.mailbox.specs.Ending.{ended}
 use Rattle.mailbox.specs.Outcome.{Outcome, reads, changes, refused}
 use Rattle.commands.specs.Commands.{first-code}
-use Rattle.commands.specs.Clock.{device-time, get-timestamp, set-timestamp}
-use Rattle.commands.specs.Media.{sanitize}
-use Rattle.commands.specs.Policy.{PolicyChange, get-policy, set-interrupt-policy}
+use Rattle.settings.specs.Clock.{device-time, get-timestamp, set-timestamp}
+use Rattle.settings.specs.Media.{sanitize}
+use Rattle.settings.specs.Policy.{PolicyChange, get-policy, set-interrupt-policy}
 use Rattle.commands.specs.EffectsLog.{get-supported-logs, get-log}
 use Rattle.commands.specs.Identity.{identify}
 use Rattle.mailbox.specs.EventCommands.{get-event-records, clear-event-records}
-use Rattle.commands.specs.PoisonCommands.{ListChange, get-poison-list, inject-poison, inject-adds, injection-record, clear-poison}
+use Rattle.list_commands.specs.PoisonCommands.{ListChange, get-poison-list, inject-poison, inject-adds, injection-record, clear-poison}
 use Rattle.mailbox.specs.DeviceCalls.{EventOutcome, event-answer}
 
 -- the outcome of a command that changes the settings, and of one that changes the poison list

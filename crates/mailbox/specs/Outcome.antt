@@ -2,9 +2,9 @@
 -- Assumes nothing.
 use Prim.Native.Nat.{ℕ}
 use mathlib.Core.List.{List, []}
-use Rattle.commands.specs.Reply.{Reply}
+use Rattle.settings.specs.Reply.{Reply}
 use Rattle.mailbox.specs.State.{DeviceState}
-use Rattle.commands.specs.Vector.{no-vector}
+use Rattle.settings.specs.Vector.{no-vector}
 
 -- what any command gives: its number, its reply, the vector to raise (document 02, W-204) and the device that follows
 pub record Outcome : Type 0 where

@@ -4,8 +4,8 @@ use Prim.Native.Nat.{ℕ, _+_, _*_, _≤_}
 use mathlib.Core.List.{List}
 use Rattle.poison.specs.State as P
 use Rattle.events.specs.Log as E
-use Rattle.commands.specs.declared.clock.Clock.{Clock}
-use Rattle.commands.specs.declared.media.MediaState.{MediaState}
+use Rattle.settings.specs.declared.clock.Clock.{Clock}
+use Rattle.settings.specs.declared.media.MediaState.{MediaState}
 use Rattle.mailbox.specs.declared.device.Device.{Device}
 use Rattle.commands.specs.Numbers.{unit-lines, most-units}
 

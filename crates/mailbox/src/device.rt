@@ -1,13 +1,13 @@
 // The device: what it holds, how it is made, and its mailbox.
 use crate::by_parts;
-use commands::clock::Clock;
-use commands::media::MediaState;
-use commands::vector;
-use commands::vector::Vector;
 use events::empty;
 use events::log;
 use events::log::Log;
 use poison::list::PoisonList;
+use settings::clock::Clock;
+use settings::media::MediaState;
+use settings::vector;
+use settings::vector::Vector;
 use wire::returns;
 ghost use mathlib.Core.Path.{_≡_};
 ghost use Prim.Native.Nat.{_+_, _≤_};

@@ -17,7 +17,7 @@ use Rattle.mailbox.specs.declared.device_calls.LineAnswer.{LineAnswer}
 use Rattle.mailbox.specs.State.{DeviceState, ValidDevice, state-of}
 use Rattle.mailbox.specs.Ending.{AfterEnding}
 use Rattle.mailbox.specs.LineStatus.{status-number, status-type}
-use Rattle.commands.specs.Vector.{vector-number}
+use Rattle.settings.specs.Vector.{vector-number}
 use Rattle.mailbox.specs.DeviceCalls.{event-status, damage-total}
 use Rattle.mailbox.specs.Contracts.{Answered, Makes, EventDone, MediaDone, LineDone, StatusGiven}
 use Rattle.protocol.specs.declared.calls.Served.{Served}
@@ -29,8 +29,8 @@ use Rattle.protocol.proofs.Laws.{reply-fits, length-column, puts-then, puts-lin
 use Rattle.host_records.specs.Lines.{still, buffer-columns}
 use Rattle.host_records.proofs.Laws.{always-kept}
 use Rattle.host_records.specs.HostRequests.{serve-request}
-use Rattle.host_records.specs.HostReplies.{serve-reply}
-use Rattle.host_records.specs.HostRewrites.{serve-again}
+use Rattle.reply_records.specs.HostReplies.{serve-reply}
+use Rattle.reply_records.specs.HostRewrites.{serve-again}
 use Rattle.host_records.specs.HostWalks.{serve-walk}
 use Rattle.probe.specs.Calls.{command-call, filled, event-call, command-line, serve-new, serve-command, serve-event, serve-media, serve-line, serve-status, serve-total, serve-device}
 

@@ -21,8 +21,8 @@ use Rattle.host.specs.Walking.{walk-on}
 use Rattle.protocol.specs.HostFormats.{request-head, request-within, request-rest}
 use Rattle.host_records.specs.Lines.{still, buffer-columns, buffer-line, written-line}
 use Rattle.host_records.specs.HostRequests.{request-of, request-built, serve-request}
-use Rattle.host_records.specs.HostReplies.{each-of, record-columns, refusal-line, line-of, reply-line, serve-reply}
-use Rattle.host_records.specs.HostRewrites.{read-then, written-again, serve-again}
+use Rattle.reply_records.specs.HostReplies.{each-of, record-columns, refusal-line, line-of, reply-line, serve-reply}
+use Rattle.reply_records.specs.HostRewrites.{read-then, written-again, serve-again}
 use Rattle.host_records.specs.HostWalks.{serve-walk}
 use Rattle.probe.specs.LabelRecords.{kept-first, serve-area, serve-bytes}
 use Rattle.probe.specs.Calls.{serve-new, serve-command, serve-lent, serve-event, serve-media, serve-line, serve-status, serve-total, serve-device, serve-record, probe}

@@ -19,8 +19,8 @@ use Rattle.protocol.specs.Calls.{new-call, media-call, line-call}
 use Rattle.protocol.specs.Runs.{Printed, Program}
 use Rattle.host_records.specs.Lines.{buffer-columns}
 use Rattle.host_records.specs.HostRequests.{serve-request}
-use Rattle.host_records.specs.HostReplies.{serve-reply}
-use Rattle.host_records.specs.HostRewrites.{serve-again}
+use Rattle.reply_records.specs.HostReplies.{serve-reply}
+use Rattle.reply_records.specs.HostRewrites.{serve-again}
 use Rattle.host_records.specs.HostWalks.{serve-walk}
 use Rattle.probe.specs.LabelRecords.{Kept, area-lent, store-with, keeps-store, serve-area, serve-bytes}
 

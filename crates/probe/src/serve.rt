@@ -1,12 +1,9 @@
 // Each record given to the device, and its line printed (document 10, "Records of the base" and the rows of W-204 and W-206). A record's function gives the device
 // that follows. The records of the host library and the lines of the label store's records have modules of their own.
 use crate::label_records;
-use commands::vector::vector_number;
 use host_records::buffer;
 use host_records::buffer::LINE_ROOM;
-use host_records::replies;
 use host_records::requests;
-use host_records::rewrites;
 use host_records::walks;
 use mailbox::device::Answer;
 use mailbox::device::Device;
@@ -20,6 +17,9 @@ use protocol::output;
 use protocol::records::mark;
 use protocol::stream;
 use protocol::stream::Stream;
+use reply_records::replies;
+use reply_records::rewrites;
+use settings::vector::vector_number;
 ghost use mathlib.Core.Path.{_≡_};
 ghost use Prim.Native.Nat.{_+_, _≤_, _<_};
 ghost use lib.ListN.{length};

@@ -39,19 +39,19 @@ use denote.Triple.Table.{entered, cited}
 use denote.Triple.Walked.{says, needs, Stays, gave-ref, stay-none, walkOf, AllGo, goes-none, goes-gave-ref, Walks, ends-at, walked, walk-meets}
 use denote.Exit.{yes}
 use Rattle.mailbox.specs.State.{ValidDevice}
-use Rattle.commands.specs.Media.{due}
+use Rattle.settings.specs.Media.{due}
 use Rattle.embed.specs.Left.{WorkEnded}
 use Rattle.mailbox.specs.declared.device.Device.{Device}
 use Rattle.mailbox.proofs.device.Device as DeviceT
 use Rattle.mailbox.proofs.device.Device.Laws as DeviceL
-use Rattle.commands.proofs.media.MediaState as MediaStateT
-use Rattle.commands.proofs.media.MediaState.Laws as MediaStateL
+use Rattle.settings.proofs.media.MediaState as MediaStateT
+use Rattle.settings.proofs.media.MediaState.Laws as MediaStateL
 use Rattle.embed.proofs.Parts.{due-gives, end-work-gives}
 use Rattle.embed.proofs.Steps.{is-true, is-false, so, holds, free-all}
-use Rattle.commands.proofs.media.MediaState.due as g-due
-use Rattle.commands.proofs.media.MediaState.due.Symbol as g-due-def
-use Rattle.commands.proofs.media.MediaState.due.Symbol.{name as #g-due}
-use Rattle.commands.proofs.media.MediaState.due.Met as g-due-thm
+use Rattle.settings.proofs.media.MediaState.due as g-due
+use Rattle.settings.proofs.media.MediaState.due.Symbol as g-due-def
+use Rattle.settings.proofs.media.MediaState.due.Symbol.{name as #g-due}
+use Rattle.settings.proofs.media.MediaState.due.Met as g-due-thm
 use Rattle.embed.proofs.end_work as g-end-work
 use Rattle.embed.proofs.end_work.Symbol as g-end-work-def
 use Rattle.embed.proofs.end_work.Symbol.{name as #g-end-work}
@@ -123,7 +123,7 @@ module _ {M : Type 1} (𝓤 : URA M) (H : Heap 𝓤) (A : Atoms 𝓤) (W : Given
         move ! (0 ∷ 1 ∷ 14 ∷ []) $ opens ! tt DeviceT.the-row {h = h} b o (λ vs. spelt ! DeviceT.the-row (Is DeviceT.the-row) (shows 𝓤 H A DeviceT.the-row) (LL.vals DeviceT.the-type DeviceL.the-laws) (LL.tells DeviceT.the-type DeviceL.the-laws) fullShare h vs b o $
         move ! (1 ∷ []) $ facts ! DeviceT.the-row (Is DeviceT.the-row) (shows 𝓤 H A DeviceT.the-row) h (mach h ∷ []) (λ was. use1 W (‵ (fat fullShare DeviceL.mir b o (mach h))) (W .laws .raw-at fullShare DeviceL.mir b o (mach h)) $
         assigns ! (of-opd ! (load ! (from ! (hop ! (look ! 12 refl) (fld ! refl (stop !)))) (look-in ! 0 (sub ! 6 refl (whole !))))) (from ! (stop !)) (init ! 6 refl (LL.lawful MediaStateT.the-type MediaStateL.the-laws 𝓤 H A W .typed (h .media) _ (LL.owed DeviceT.the-type DeviceL.the-laws h _ was .1 .1 .1 .1 .1 .1 .0) .0)) $
-        -- _3 = commands::media::MediaState::due(_4, time)
+        -- _3 = settings::media::MediaState::due(_4, time)
         nothing ! $ move ! (0 ∷ []) $ use1 W (raw (C-due 𝓤 H A at-mem run .pre to-due)) (goes-due (LL.owed DeviceT.the-type DeviceL.the-laws h _ was .1 .1 .1 .1 .1 .1 .0)) $
         calls-at ! fm (C-due 𝓤 H A at-mem run) k-due to-due (and-then ! (load ! (from ! (stop !)) (look ! 7 refl)) (and-then ! (load ! (from ! (stop !)) (look ! 11 refl)) (no-more !))) (λ v-due.
         use1 W (later (some (λ (r-due : Bool). ((‵ ftrue) ⊛ ‵ (bool .own r-due (v-due ∷ []))) ⊛ raw (ensured 𝓤 H A g-due.ended (g-due.clauses 𝓤 H A at-mem run) tt (h .media, (time, tt)) tt r-due)))) (id⊢ 𝓤 _) $ await ! tt $ pick ! (λ r-due. split ! $
@@ -183,5 +183,5 @@ end-due-spec 𝓤 H 𝓜 𝓖 𝓡 =
     entered 𝓤 H (tripleOf 𝓤 H (𝓖 .A) f.signature (f.spec 𝓤 H (𝓖 .A) (𝓜 .mem) (𝓡 .run)))
     (tables 𝓤 H 𝓜 𝓡 code.env .C) (tables 𝓤 H 𝓜 𝓡 code.env .Λ) #f code.function (code.unfolded 𝓤 H 𝓜 𝓡)
     (meets 𝓤 H (𝓖 .A) (givenOf 𝓤 H 𝓜 𝓖) (𝓜 .mem) (𝓡 .run) (tablesOf 𝓤 H 𝓜 (tables 𝓤 H 𝓜 𝓡 code.env))
-    (cited 𝓤 H (C-due 𝓤 H (𝓖 .A) (𝓜 .mem) (𝓡 .run)) 𝓜 𝓡 code.env #g-due g-due-def.routine code.calls-commands·media·MediaState·due (g-due-thm.met 𝓤 H 𝓜 𝓖 𝓡))
+    (cited 𝓤 H (C-due 𝓤 H (𝓖 .A) (𝓜 .mem) (𝓡 .run)) 𝓜 𝓡 code.env #g-due g-due-def.routine code.calls-settings·media·MediaState·due (g-due-thm.met 𝓤 H 𝓜 𝓖 𝓡))
     (cited 𝓤 H (C-end-work 𝓤 H (𝓖 .A) (𝓜 .mem) (𝓡 .run)) 𝓜 𝓡 code.env #g-end-work g-end-work-def.routine code.calls-embed·end-work (g-end-work-thm.met 𝓤 H 𝓜 𝓖 𝓡)))

@@ -41,23 +41,23 @@ use denote.Triple.Walked.{says, needs, Stays, stay-ref, walkOf, AllGo, goes-ref,
 use Rattle.mailbox.specs.State.{ValidDevice}
 use Rattle.embed.specs.Left.{LogEmptied}
 use Rattle.mailbox.specs.ByParts.{log-at}
-use Rattle.commands.specs.Media.{enabled}
+use Rattle.settings.specs.Media.{enabled}
 use Rattle.mailbox.specs.declared.device.Device.{Device}
 use Rattle.mailbox.proofs.device.Device as DeviceT
 use Rattle.mailbox.proofs.device.Device.Laws as DeviceL
-use Rattle.commands.specs.declared.media.MediaState.{MediaState}
-use Rattle.commands.proofs.media.MediaState as MediaStateT
-use Rattle.commands.proofs.media.MediaState.Laws as MediaStateL
+use Rattle.settings.specs.declared.media.MediaState.{MediaState}
+use Rattle.settings.proofs.media.MediaState as MediaStateT
+use Rattle.settings.proofs.media.MediaState.Laws as MediaStateL
 use Rattle.embed.proofs.Parts.{enabled-gives}
 use Rattle.embed.proofs.Steps.{so, holds, free-all, lends-on, back-on}
 use Rattle.embed.proofs.end_log as g-end-log
 use Rattle.embed.proofs.end_log.Symbol as g-end-log-def
 use Rattle.embed.proofs.end_log.Symbol.{name as #g-end-log}
 use Rattle.embed.proofs.end_log.Met as g-end-log-thm
-use Rattle.commands.proofs.media.MediaState.enabled as g-enabled
-use Rattle.commands.proofs.media.MediaState.enabled.Symbol as g-enabled-def
-use Rattle.commands.proofs.media.MediaState.enabled.Symbol.{name as #g-enabled}
-use Rattle.commands.proofs.media.MediaState.enabled.Met as g-enabled-thm
+use Rattle.settings.proofs.media.MediaState.enabled as g-enabled
+use Rattle.settings.proofs.media.MediaState.enabled.Symbol as g-enabled-def
+use Rattle.settings.proofs.media.MediaState.enabled.Symbol.{name as #g-enabled}
+use Rattle.settings.proofs.media.MediaState.enabled.Met as g-enabled-thm
 use Rattle.embed.proofs.end_work.Key.{name as #f}
 use Rattle.embed.proofs.end_work as f
 use Rattle.embed.proofs.end_work.Statement as stated
@@ -207,7 +207,7 @@ module _ {M : Type 1} (𝓤 : URA M) (H : Heap 𝓤) (A : Atoms 𝓤) (W : Given
         move ! (0 ∷ []) $ fsplit ! $ move ! (1 ∷ []) $ drop ! $ move ! (1 ∷ []) $ split ! $ move ! (0 ∷ []) $ split ! $ move ! (1 ∷ []) $ drop ! $ move ! (1 ∷ []) $ facts ! unit (Is unit) (shows 𝓤 H A unit) r-end-log-5 (v-end-log-5 ∷ []) (λ i-end-log-5.
         land ! (from ! (stop !)) (store ! 13 refl (nothing-lawful 𝓤 H A W .typed r-end-log-5 _ i-end-log-5 .0)) $ rewrite ! 13 (λ (u : Val). ‵ (fat fullShare tyUnit l₃ 0 u)) (ap only (nothing-tells r-end-log-5 _ i-end-log-5)) refl $
         move ! (0 ∷ 2 ∷ 1 ∷ []) $ back-on ! tt DeviceT.the-row (ws-end-log-4 .0) (ws-end-log-5 .0) b o $
-        -- _2 = commands::media::MediaState::enabled()
+        -- _2 = settings::media::MediaState::enabled()
         nothing ! $ move ! (0 ∷ []) $ use1 W (raw (C-enabled 𝓤 H A at-mem run .pre to-enabled)) (goes-enabled) $
         calls-at ! fm (C-enabled 𝓤 H A at-mem run) k-enabled to-enabled (no-more !) (λ v-enabled.
         use1 W (later (some (λ (r-enabled : MediaState). ((‵ ftrue) ⊛ ‵ (MediaStateT.the-row .own r-enabled (v-enabled ∷ []))) ⊛ raw (ensured 𝓤 H A g-enabled.ended (g-enabled.clauses 𝓤 H A at-mem run) tt tt tt r-enabled)))) (id⊢ 𝓤 _) $ await ! tt $ pick ! (λ r-enabled. split ! $
@@ -250,4 +250,4 @@ end-work-spec 𝓤 H 𝓜 𝓖 𝓡 =
     (tables 𝓤 H 𝓜 𝓡 code.env .C) (tables 𝓤 H 𝓜 𝓡 code.env .Λ) #f code.function (code.unfolded 𝓤 H 𝓜 𝓡)
     (meets 𝓤 H (𝓖 .A) (givenOf 𝓤 H 𝓜 𝓖) (𝓜 .mem) (𝓡 .run) (tablesOf 𝓤 H 𝓜 (tables 𝓤 H 𝓜 𝓡 code.env))
     (cited 𝓤 H (C-end-log 𝓤 H (𝓖 .A) (𝓜 .mem) (𝓡 .run)) 𝓜 𝓡 code.env #g-end-log g-end-log-def.routine code.calls-embed·end-log (g-end-log-thm.met 𝓤 H 𝓜 𝓖 𝓡))
-    (cited 𝓤 H (C-enabled 𝓤 H (𝓖 .A) (𝓜 .mem) (𝓡 .run)) 𝓜 𝓡 code.env #g-enabled g-enabled-def.routine code.calls-commands·media·MediaState·enabled (g-enabled-thm.met 𝓤 H 𝓜 𝓖 𝓡)))
+    (cited 𝓤 H (C-enabled 𝓤 H (𝓖 .A) (𝓜 .mem) (𝓡 .run)) 𝓜 𝓡 code.env #g-enabled g-enabled-def.routine code.calls-settings·media·MediaState·enabled (g-enabled-thm.met 𝓤 H 𝓜 𝓖 𝓡)))

@@ -59,8 +59,8 @@ use Rattle.events.proofs.log.Log.Laws as LogL
 use Rattle.mailbox.specs.declared.by_parts.EventParts.{EventParts}
 use Rattle.mailbox.proofs.by_parts.EventParts as EventPartsT
 use Rattle.mailbox.proofs.by_parts.EventParts.Laws as EventPartsL
-use Rattle.commands.proofs.clock.Clock as ClockT
-use Rattle.commands.proofs.clock.Clock.Laws as ClockL
+use Rattle.settings.proofs.clock.Clock as ClockT
+use Rattle.settings.proofs.clock.Clock.Laws as ClockL
 use Rattle.embed.proofs.Parts.{event-report-in-asks, event-report-in-gives}
 use Rattle.embed.proofs.Steps.{so, holds, free-all, lends-on, back-on}
 use Rattle.embed.proofs.Indexed.{big, numbers, put-field, values-set, count, element, with-element, element-in}

@@ -59,8 +59,8 @@ use Rattle.embed.proofs.Line as LineT
 use Rattle.embed.proofs.Line.Laws as LineL
 use Rattle.poison.proofs.list.PoisonList as PoisonListT
 use Rattle.poison.proofs.list.PoisonList.Laws as PoisonListL
-use Rattle.commands.proofs.media.MediaState as MediaStateT
-use Rattle.commands.proofs.media.MediaState.Laws as MediaStateL
+use Rattle.settings.proofs.media.MediaState as MediaStateT
+use Rattle.settings.proofs.media.MediaState.Laws as MediaStateL
 use Rattle.embed.proofs.Parts.{line-in-asks, line-in-gives}
 use Rattle.embed.proofs.Steps.{so, holds, free-all, lend}
 use Rattle.embed.proofs.line_in as g-line-in

@@ -59,8 +59,8 @@ use Rattle.poison.proofs.list.PoisonList.Laws as PoisonListL
 use Rattle.mailbox.specs.declared.by_parts.MediaLeft.{MediaLeft}
 use Rattle.mailbox.proofs.by_parts.MediaLeft as MediaLeftT
 use Rattle.mailbox.proofs.by_parts.MediaLeft.Laws as MediaLeftL
-use Rattle.commands.proofs.clock.Clock as ClockT
-use Rattle.commands.proofs.clock.Clock.Laws as ClockL
+use Rattle.settings.proofs.clock.Clock as ClockT
+use Rattle.settings.proofs.clock.Clock.Laws as ClockL
 use Rattle.embed.proofs.Parts.{media-report-in-place-asks, media-report-in-place-gives}
 use Rattle.embed.proofs.Steps.{so, holds, free-all, lends-on, back-on}
 use Rattle.embed.proofs.Lending.{Back, Starts, Lengths, Kinds, with-slots, slots-out, slots-in}

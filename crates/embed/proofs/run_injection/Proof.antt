@@ -62,13 +62,13 @@ use Rattle.poison.proofs.list.PoisonList.Laws as PoisonListL
 use Rattle.events.specs.declared.log.Log.{Log}
 use Rattle.events.proofs.log.Log as LogT
 use Rattle.events.proofs.log.Log.Laws as LogL
-use Rattle.commands.proofs.media.MediaState as MediaStateT
-use Rattle.commands.proofs.media.MediaState.Laws as MediaStateL
+use Rattle.settings.proofs.media.MediaState as MediaStateT
+use Rattle.settings.proofs.media.MediaState.Laws as MediaStateL
 use Rattle.mailbox.specs.declared.by_parts.InjectLeft.{InjectLeft}
 use Rattle.mailbox.proofs.by_parts.InjectLeft as InjectLeftT
 use Rattle.mailbox.proofs.by_parts.InjectLeft.Laws as InjectLeftL
-use Rattle.commands.proofs.clock.Clock as ClockT
-use Rattle.commands.proofs.clock.Clock.Laws as ClockL
+use Rattle.settings.proofs.clock.Clock as ClockT
+use Rattle.settings.proofs.clock.Clock.Laws as ClockL
 use Rattle.embed.proofs.Parts.{inject-in-place-asks, inject-in-place-gives}
 use Rattle.embed.proofs.Steps.{so, holds, free-all}
 use Rattle.embed.proofs.Lending.{Back, Starts, Lengths, Kinds, with-slots, slots-out, slots-in}

@@ -50,8 +50,8 @@ use Rattle.mailbox.proofs.device.Device.Laws as DeviceL
 use Rattle.embed.specs.declared.Done.{Done}
 use Rattle.embed.proofs.Done as DoneT
 use Rattle.embed.proofs.Done.Laws as DoneL
-use Rattle.commands.proofs.media.MediaState as MediaStateT
-use Rattle.commands.proofs.media.MediaState.Laws as MediaStateL
+use Rattle.settings.proofs.media.MediaState as MediaStateT
+use Rattle.settings.proofs.media.MediaState.Laws as MediaStateL
 use Rattle.mailbox.specs.declared.by_parts.AreaParts.{AreaParts}
 use Rattle.mailbox.proofs.by_parts.AreaParts as AreaPartsT
 use Rattle.mailbox.proofs.by_parts.AreaParts.Laws as AreaPartsL

@@ -58,13 +58,13 @@ use Rattle.embed.proofs.Done.Laws as DoneL
 use Rattle.poison.specs.declared.list.PoisonList.{PoisonList}
 use Rattle.poison.proofs.list.PoisonList as PoisonListT
 use Rattle.poison.proofs.list.PoisonList.Laws as PoisonListL
-use Rattle.commands.proofs.media.MediaState as MediaStateT
-use Rattle.commands.proofs.media.MediaState.Laws as MediaStateL
+use Rattle.settings.proofs.media.MediaState as MediaStateT
+use Rattle.settings.proofs.media.MediaState.Laws as MediaStateL
 use Rattle.mailbox.specs.declared.by_parts.ListLeft.{ListLeft}
 use Rattle.mailbox.proofs.by_parts.ListLeft as ListLeftT
 use Rattle.mailbox.proofs.by_parts.ListLeft.Laws as ListLeftL
-use Rattle.commands.proofs.clock.Clock as ClockT
-use Rattle.commands.proofs.clock.Clock.Laws as ClockL
+use Rattle.settings.proofs.clock.Clock as ClockT
+use Rattle.settings.proofs.clock.Clock.Laws as ClockL
 use Rattle.embed.proofs.Parts.{list-command-in-place-asks, list-command-in-place-gives}
 use Rattle.embed.proofs.Steps.{so, holds, free-all}
 use Rattle.embed.proofs.Lending.{Back, Starts, Lengths, Kinds, with-slots, slots-out, slots-in}

@@ -56,12 +56,12 @@ use Rattle.embed.proofs.Done.Laws as DoneL
 use Rattle.mailbox.specs.declared.by_parts.SettingsParts.{SettingsParts}
 use Rattle.mailbox.proofs.by_parts.SettingsParts as SettingsPartsT
 use Rattle.mailbox.proofs.by_parts.SettingsParts.Laws as SettingsPartsL
-use Rattle.commands.specs.declared.clock.Clock.{Clock}
-use Rattle.commands.proofs.clock.Clock as ClockT
-use Rattle.commands.proofs.clock.Clock.Laws as ClockL
-use Rattle.commands.specs.declared.media.MediaState.{MediaState}
-use Rattle.commands.proofs.media.MediaState as MediaStateT
-use Rattle.commands.proofs.media.MediaState.Laws as MediaStateL
+use Rattle.settings.specs.declared.clock.Clock.{Clock}
+use Rattle.settings.proofs.clock.Clock as ClockT
+use Rattle.settings.proofs.clock.Clock.Laws as ClockL
+use Rattle.settings.specs.declared.media.MediaState.{MediaState}
+use Rattle.settings.proofs.media.MediaState as MediaStateT
+use Rattle.settings.proofs.media.MediaState.Laws as MediaStateL
 use Rattle.embed.proofs.Parts.{settings-command-asks, settings-command-gives}
 use Rattle.embed.proofs.Steps.{so, holds, free-all}
 use Rattle.embed.proofs.Indexed.{numbers}

@@ -2,7 +2,7 @@
 use denote.Ref.{now}
 use Rattle.wire.specs.Wire.{same, part, field, splice}
 use Rattle.commands.specs.EffectsLog.{effects-log, effects-log-id}
-use Rattle.commands.proofs.Replies.{no-bytes, bytes-written}
+use Rattle.settings.proofs.Laws.{no-bytes, bytes-written}
 use Rattle.commands.proofs.EffectsLaws.{log-other, log-long, log-past, log-part, effects-are}
 use Rattle.wire.proofs.Laws.{length-part}
 use borrow.Author.Tests.{not-true, not-false}

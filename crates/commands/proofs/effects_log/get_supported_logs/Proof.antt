@@ -1,6 +1,6 @@
 -- `commands::effects_log::get_supported_logs` meets its contract. Assumes nothing.
 use Rattle.commands.specs.EffectsLog.{get-supported-logs}
-use Rattle.commands.proofs.Replies.{bytes-written}
+use Rattle.settings.proofs.Laws.{bytes-written}
 use Rattle.commands.proofs.EffectsLaws.{supported-written, supported-length}
 use mathlib.Core.Path.{refl, _∙_}
 use Prim.Native.Nat.{_-_}

@@ -1,6 +1,6 @@
 -- `commands::identity::identify` meets its contract. Assumes nothing.
 use Rattle.commands.specs.Identity.{identify}
-use Rattle.commands.proofs.Replies.{bytes-written}
+use Rattle.settings.proofs.Laws.{bytes-written}
 use Rattle.commands.proofs.IdentityLaws.{identity-written, identity-length}
 use mathlib.Core.Path.{refl, _∙_}
 use Prim.Native.Nat.{_-_}

@@ -2,7 +2,7 @@
 use Prim.Native.Nat.{_/_}
 use Rattle.poison.specs.State.{capacity}
 use Rattle.mailbox.specs.State.{lines-of, state-of}
-use Rattle.commands.specs.PoisonCommands.{range-code}
+use Rattle.list_commands.specs.PoisonCommands.{range-code}
 use Rattle.host.specs.Walking.{Askable}
 use Rattle.host.proofs.Halvings.{few-records}
 use Rattle.host.proofs.WalkCalls.{asked-code, range-askable, range-few, by-device, too-many, given}

@@ -2,7 +2,7 @@
 use mathlib.Core.Path.{_≡_, sym, _∙_}
 use mathlib.Core.Bool.{false}
 use borrow.Author.Needs.{needs}
-use Rattle.commands.specs.Media.{due}
+use Rattle.settings.specs.Media.{due}
 use Rattle.mailbox.proofs.Endings.{ends-none, after-command}
 use Rattle.mailbox.proofs.device.Device.command.Statement.{statement}
 use Rattle.mailbox.proofs.device.Device.command.Tie as tie

@@ -1,5 +1,5 @@
 -- `mailbox::device::Device::damage_total` meets its contract. Assumes nothing.
-use Rattle.commands.proofs.Laws.{device-any}
+use Rattle.list_commands.proofs.Laws.{device-any}
 use mathlib.Core.Path.{refl}
 use Prim.Native.Nat.{_-_}
 use borrow.Author.Needs.{needs}

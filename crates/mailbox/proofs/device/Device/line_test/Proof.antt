@@ -5,9 +5,9 @@ use Prim.Native.Nat.{_-_}
 use native.Mathlib.Omega.{arith}
 use borrow.Author.Needs.{needs}
 use Rattle.mailbox.specs.State.{state-of, lines-of}
-use Rattle.commands.specs.PoisonCommands.{line-code}
-use Rattle.commands.proofs.Laws.{line-inside}
-use Rattle.commands.proofs.Laws.{device-lines, device-any}
+use Rattle.list_commands.specs.PoisonCommands.{line-code}
+use Rattle.list_commands.proofs.Laws.{line-inside}
+use Rattle.list_commands.proofs.Laws.{device-lines, device-any}
 use Rattle.mailbox.proofs.DeviceAnswers.{line-refused, line-disabled, line-tested}
 use Rattle.mailbox.proofs.device.Device.line_test.Statement.{statement}
 use Rattle.mailbox.proofs.device.Device.line_test.Tie as tie
