@@ -1,4 +1,4 @@
-# Sourced by tests/run and tests/linked/run: a test is made of parts, each a command that is run and counted.
+# Sourced by tests/second, tests/run and tests/linked/run: a test is made of parts, each a command that is run and counted.
 #
 # A part prints its name, its result line and its seconds, after its output if it
 # failed. One failed is added for a part that has no result line, passes nothing,
