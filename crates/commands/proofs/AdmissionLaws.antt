@@ -1,4 +1,4 @@
--- Laws of the checks before a command's own: what `admission` gives in each case, and what holds where it gives 0. Assumes nothing.
+-- Laws of the checks before a command's own: what `admission` gives in each case, and what holds where it gives 0; and the same with what is refused while media is disabled (document 02, W-207). Assumes nothing.
 use mathlib.Core.Path.{_≡_, refl, sym, ap, ap₂, _∙_}
 use mathlib.Core.Bool.{Bool, true, false, _||_}
 use Prim.Native.Nat.{ℕ, _≤_, _<_}

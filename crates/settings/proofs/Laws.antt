@@ -1,4 +1,4 @@
--- The laws of clock, policy, vectors and media, each with its sentence in words; their statements and proofs are in other files, and are passed on from here. This is the one file
+-- The laws of replies, of the interrupt policy and of the vectors, each with its sentence in words; their statements and proofs are in other files, and are passed on from here. This is the one file
 -- of proofs/ that a crate above may cite (`tests/layers`). Assumes nothing.
 
 -- A refusal replies nothing and leaves the buffer, and a reply that is written from the buffer's start is that reply; a reply of several fields is put together field by field.

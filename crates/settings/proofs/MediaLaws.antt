@@ -1,13 +1,12 @@
--- Laws of media and of Sanitize (document 02, W-207): the rows of the table of seconds one after the other, the ten rows and their edges computed, when a work is due to end, and which commands are refused meanwhile.
+-- Laws of media and of Sanitize (document 02, W-207): the rows of the table of seconds one after the other, the ten rows and their edges computed, and when a work is due to end.
 -- Assumes nothing.
-use mathlib.Core.Path.{_≡_, refl, sym, ap}
+use mathlib.Core.Path.{_≡_, refl, sym}
 use mathlib.Core.Bool.{Bool, true, false}
 use mathlib.Core.List.{List, [], _∷_}
 use Prim.Native.Nat.{ℕ, _+_, _-_, _*_, _≤_, _<_}
 use native.Mathlib.Omega.{arith}
 use lib.Dec.{leb}
 use borrow.Author.Tests.{le-leb, lt-leb, leb-true, leb-false}
-use Rattle.wire.specs.Returns.{busy, media-disabled}
 use Rattle.settings.specs.Media.{rows, seconds-in, duration, due}
 use Rattle.settings.specs.declared.media.MediaState.{MediaState}
 
