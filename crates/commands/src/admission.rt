@@ -1,11 +1,12 @@
 // The checks before a command's own (document 01, "Return numbers", "Order for a command"; document 02, W-206, and W-207: which commands are refused while media is disabled), and which of two checks decides.
+use crate::mailboxes::Mailbox;
 use wire::returns;
 ghost use mathlib.Core.Path.{_≡_};
 ghost use mathlib.Core.Bool.{_||_};
 ghost use lib.Dec.{eqb, leb};
-ghost use Rattle.wire.specs.Returns.{invalid-length, small-buffer, need};
+ghost use Rattle.wire.specs.Returns.{unsupported-mailbox, invalid-length, small-buffer, need};
 ghost use Rattle.labels.specs.Labels.{label-size};
-ghost use Rattle.commands.specs.Commands.{admission, while-disabled, blocked};
+ghost use Rattle.commands.specs.Commands.{is-first, checked, while-disabled, blocked};
 
 // The first of two return numbers that refuses, 0 where none does: what is checked first decides.
 pub fn first_refusal(first: u16, second: u16) -> u16
@@ -29,9 +30,9 @@ pub fn check_area(size: usize) -> u16
     }
 }
 
-// The number that is given before a command's own checks, where the label area has 4,096 bytes; 0 where there is none.
-pub fn admitted(opcode: u16, length: usize, room: usize) -> u16
-    ensures { λ r. ⌜ r ≡ admission opcode length label-size room ⌝ }
+// The number that a mailbox gives before a command's own checks, 0 where there is none. The first mailbox checks the label area before (`check_area`); the pool manager's is lent none.
+pub fn admitted(mailbox: Mailbox, opcode: u16, length: usize, room: usize) -> u16
+    ensures { λ r. ⌜ r ≡ checked mailbox opcode length room ⌝ }
 {
     if room < 2048 {
         return returns::SMALL_BUFFER;
@@ -41,21 +42,31 @@ pub fn admitted(opcode: u16, length: usize, room: usize) -> u16
     }
     match opcode {
         0x0100 => exactly(length, 1),
-        0x0101 => at_least(length, 6),
+        0x0101 => first_only(mailbox, at_least(length, 6)),
         0x0102 => exactly(length, 0),
-        0x0103 => four_or_five(length),
+        0x0103 => first_only(mailbox, four_or_five(length)),
         0x0300 => exactly(length, 0),
-        0x0301 => exactly(length, 8),
+        0x0301 => first_only(mailbox, exactly(length, 8)),
         0x0400 => exactly(length, 0),
         0x0401 => exactly(length, 24),
         0x4000 => exactly(length, 0),
-        0x4102 => exactly(length, 8),
-        0x4103 => at_least(length, 8),
+        0x4102 => first_only(mailbox, exactly(length, 8)),
+        0x4103 => first_only(mailbox, at_least(length, 8)),
         0x4300 => exactly(length, 16),
-        0x4301 => exactly(length, 8),
-        0x4302 => exactly(length, 72),
-        0x4400 => exactly(length, 0),
+        0x4301 => first_only(mailbox, exactly(length, 8)),
+        0x4302 => first_only(mailbox, exactly(length, 72)),
+        0x4400 => first_only(mailbox, exactly(length, 0)),
         _ => returns::UNSUPPORTED,
+    }
+}
+
+// A command that the first mailbox alone has: the number of its payload's length there, and 0015h in the pool manager's, whatever the length.
+fn first_only(mailbox: Mailbox, code: u16) -> u16
+    ensures { λ r. ⌜ r ≡ need (is-first mailbox) unsupported-mailbox code ⌝ }
+{
+    match mailbox {
+        Mailbox::First => code,
+        Mailbox::Pool => returns::UNSUPPORTED_MAILBOX,
     }
 }
 

@@ -4,3 +4,4 @@
 pub mod admission;
 pub mod effects_log;
 pub mod identity;
+pub mod mailboxes;

@@ -18,6 +18,7 @@ use Rattle.labels.specs.Labels.{label-size, zero-area}
 use Rattle.mailbox.specs.State.{DeviceState, ValidDevice, state-of}
 use Rattle.mailbox.specs.declared.device.Device.{Device}
 use Rattle.commands.specs.Commands.{commands, known}
+use Rattle.commands.proofs.Laws.{known-one}
 use Rattle.commands.specs.EffectsLog.{effects-log-id}
 use Rattle.mailbox.specs.Outcome.{Outcome}
 use Rattle.mailbox.specs.Mailbox.{outcome, area-after}
@@ -205,22 +206,53 @@ none-of e = absurd (let z : _≡_ {A = ℕ} 0 1 = cc in omega arith)
 succeeds : (n : ℕ) → known commands n ≡ true → Succeeds n
 unfolding rules
 succeeds n =
-    one-of Succeeds n 0x0100 _ (zeros 0x0100 1 refl refl refl)
-    (one-of Succeeds n 0x0101 _ (zeros 0x0101 6 refl refl refl)
-    (one-of Succeeds n 0x0102 _ (zeros 0x0102 0 refl refl refl)
-    (one-of Succeeds n 0x0103 _ (zeros 0x0103 4 refl refl refl)
-    (one-of Succeeds n 0x0300 _ (zeros 0x0300 0 refl refl refl)
-    (one-of Succeeds n 0x0301 _ (zeros 0x0301 8 refl refl refl)
-    (one-of Succeeds n 0x0400 _ (zeros 0x0400 0 refl refl refl)
-    (one-of Succeeds n 0x0401 _ (record { payload = effects-log-id ++ replicate 8 0; small = refl; lent = refl; taken = λ r. r .not-success refl })
-    (one-of Succeeds n 0x4000 _ (zeros 0x4000 0 refl refl refl)
-    (one-of Succeeds n 0x4102 _ (zeros 0x4102 8 refl refl refl)
-    (one-of Succeeds n 0x4103 _ (zeros 0x4103 8 refl refl refl)
-    (one-of Succeeds n 0x4300 _ (zeros 0x4300 16 refl refl refl)
-    (one-of Succeeds n 0x4301 _ (zeros 0x4301 8 refl refl refl)
-    (one-of Succeeds n 0x4302 _ (zeros 0x4302 72 refl refl refl)
-    (one-of Succeeds n 0x4400 _ (record { payload = []; small = refl; lent = refl; taken = λ r. r .not-started refl })
-    none-of))))))))))))))
+    known-one Succeeds commands (
+      zeros 0x0100 1 refl refl refl,
+      (
+        zeros 0x0101 6 refl refl refl,
+        (
+          zeros 0x0102 0 refl refl refl,
+          (
+            zeros 0x0103 4 refl refl refl,
+            (
+              zeros 0x0300 0 refl refl refl,
+              (
+                zeros 0x0301 8 refl refl refl,
+                (
+                  zeros 0x0400 0 refl refl refl,
+                  (
+                    record { payload = effects-log-id ++ replicate 8 0; small = refl; lent = refl; taken = λ r. r .not-success refl },
+                    (
+                      zeros 0x4000 0 refl refl refl,
+                      (
+                        zeros 0x4102 8 refl refl refl,
+                        (
+                          zeros 0x4103 8 refl refl refl,
+                          (
+                            zeros 0x4300 16 refl refl refl,
+                            (
+                              zeros 0x4301 8 refl refl refl,
+                              (
+                                zeros 0x4302 72 refl refl refl,
+                                (
+                                  record { payload = []; small = refl; lent = refl; taken = λ r. r .not-started refl },
+                                  tt,
+                                ),
+                              ),
+                            ),
+                          ),
+                        ),
+                      ),
+                    ),
+                  ),
+                ),
+              ),
+            ),
+          ),
+        ),
+      ),
+    )
+    n
   where
     zeros : (k n : ℕ) → ltb k 65536 ≡ true → short (replicate n 0) ≡ true → outcome (Device.make 1 0 .next) k (replicate n 0) 0 zero-area 2048 .code ≡ 0 → Succeeds k
     zeros k n s l c = record { payload = replicate n 0; small = s; lent = l; taken = λ r. r .not-success c }

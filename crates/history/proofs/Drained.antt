@@ -23,6 +23,7 @@ use Rattle.mailbox.specs.State.{DeviceState, state-of}
 use Rattle.settings.specs.Vector.{no-vector}
 use Rattle.mailbox.specs.Outcome.{Outcome}
 use Rattle.mailbox.specs.EventCommands.{get-event-records, clear-event-records}
+use Rattle.mailbox.specs.Telling.{telling}
 use Rattle.mailbox.specs.Mailbox.{run-command, answer, outcome}
 use Rattle.mailbox.specs.DeviceCalls as Device
 use Rattle.mailbox.specs.Contracts.{Answered}
@@ -61,7 +62,7 @@ module _ (d : DeviceState) (k time : ℕ) (area : List ℕ) (room : ℕ) (accept
   got = answer d 0x0100 (k ∷ []) time area room
 
   read-is : got ≡ record { code = given .code; reply = given .reply; vector = no-vector; next = d }
-  unfolding run-command get-event-records
+  unfolding run-command telling get-event-records
   read-is = accepted-runs d 0x0100 (k ∷ []) time area room accepted
 
   right : given .code ≡ 0

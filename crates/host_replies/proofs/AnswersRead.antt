@@ -18,15 +18,18 @@ use Rattle.events.proofs.Laws.{read-log as log-read}
 use Rattle.commands.specs.Numbers.{mailbox-size, event-records}
 use Rattle.mailbox.specs.State.{DeviceState, lines-of}
 use Rattle.mailbox.specs.Ending.{ended}
-use Rattle.settings.specs.Reply.{no-reply, replied as replied-bytes}
+use Rattle.settings.specs.Reply.{Reply, no-reply, replied as replied-bytes}
 use Rattle.mailbox.specs.Outcome.{Outcome, changes}
-use Rattle.commands.specs.Commands.{commands}
+use Rattle.commands.specs.Commands.{commands, rows-of}
 use Rattle.settings.specs.Clock.{device-time, get-timestamp}
 use Rattle.settings.specs.Policy.{get-policy}
-use Rattle.commands.specs.EffectsLog.{effects-log, effects-log-id, effects-log-size, log-offset, log-length, get-supported-logs, get-log}
+use Rattle.commands.specs.EffectsLog.{effects-log, effects-log-id, effects-size, log-offset, log-length, get-supported-logs, part-of-log, get-log}
+use Rattle.commands.specs.declared.mailboxes.Mailbox.{Mailbox}
+use Rattle.commands.specs.declared.mailboxes.Mailbox.the-variants.{First, Pool}
 use Rattle.commands.specs.Identity.{version, limits, identify}
 use Rattle.mailbox.specs.EventCommands.{get-event-records, clear-event-records}
 use Rattle.list_commands.specs.PoisonCommands.{line-of, range-code, list-reply, get-poison-list, inject-adds}
+use Rattle.mailbox.specs.Telling.{telling}
 use Rattle.mailbox.specs.Mailbox.{run-command, inject, outcome}
 use Rattle.mailbox.proofs.Laws.{accepted-runs}
 use Rattle.host_replies.specs.declared.counted.Kind.the-variants.{SupportedLogs}
@@ -39,7 +42,7 @@ use Rattle.host_replies.specs.declared.reply.TimeRead.{TimeRead}
 use Rattle.host_replies.specs.Counted.{header-size, record-size, first-reserved, reserved, writing-verdict}
 use Rattle.host_replies.specs.Replies.{read-timestamp, read-supported-logs, logs-header, identity-limits, identity-bytes, read-identity, read-nothing, supported-log}
 use Rattle.host_replies.specs.Fields.{IdentityWidths}
-use Rattle.host_replies.specs.DeviceReplies.{reading-code, Plain, Holds, EventsTold, PolicyTold, TimeTold, LogsTold, LogTold, IdentityTold, ListTold}
+use Rattle.host_replies.specs.DeviceReplies.{reading-told, reading-code, Plain, Holds, EventsTold, PolicyTold, TimeTold, LogsTold, LogTold, IdentityTold, ListTold}
 use Rattle.host_replies.specs.DeviceReplies as Told
 use Rattle.wire.proofs.Splice.{number-read}
 use Rattle.host_replies.proofs.Accepted.{policy-taken, time-taken, log-taken, nothing-taken}
@@ -60,17 +63,18 @@ time-holds d time =
     ∙ ap (λ (x : ℕ). record { code = 0; time = x }) (number-read 8 (device-time (d .clock) time) (time-small d time))
 
 -- one log, the Command Effects Log
-logs-writable : writing-verdict SupportedLogs 1 (effects-log-id ++ le 4 effects-log-size) 28 .code ≡ 0
+logs-writable : (size : ℕ) → writing-verdict SupportedLogs 1 (effects-log-id ++ le 4 size) 28 .code ≡ 0
 unfolding writing-verdict header-size record-size first-reserved reserved effects-log-id le
-logs-writable = refl
+logs-writable size = refl
 
-logs-hold : Holds SupportedLogs read-supported-logs (get-supported-logs .bytes) (record { code = 0; place = 0; count = 1 }) (effects-log-id ++ le 4 effects-log-size)
+logs-hold : (m : Mailbox) → Holds SupportedLogs read-supported-logs (get-supported-logs m .bytes) (record { code = 0; place = 0; count = 1 }) (effects-log-id ++ le 4 (effects-size m))
 unfolding get-supported-logs logs-header le effects-log-id
-logs-hold = let r = logs-reread 1 (omega arith) (effects-log-id ++ le 4 effects-log-size) 28 logs-writable in record { fields = r .fields; records = r .records }
+logs-hold m = let r = logs-reread 1 (omega arith) (effects-log-id ++ le 4 (effects-size m)) 28 (logs-writable (effects-size m)) in record { fields = r .fields; records = r .records }
 
-log-listed : supported-log (effects-log-id ++ le 4 effects-log-size) 0 ≡ record { identifier = effects-log-id; size = effects-log-size }
-unfolding supported-log part field number effects-log-id le
-log-listed = refl
+log-listed : (m : Mailbox) → supported-log (effects-log-id ++ le 4 (effects-size m)) 0 ≡ record { identifier = effects-log-id; size = effects-size m }
+unfolding supported-log part field number effects-log-id effects-log rows-of commands le
+log-listed First = refl
+log-listed Pool = refl
 
 identity-widths : (volatile persistent : ℕ) → volatile + persistent < 256 ^ 8 → IdentityWidths (Told.identity-told volatile persistent)
 unfolding version
@@ -83,24 +87,18 @@ identity-holds volatile persistent small = identity-reads (Told.identity-told vo
 
 -- ---- a reply given with number 0 is the one that its definition has
 module _ (p : List ℕ) where
-  effects-long : length effects-log ≡ effects-log-size
-  unfolding effects-log commands le
-  effects-long = refl
-
-  log-given : get-log p .code ≡ 0 → (get-log p .bytes ≡ part (log-offset p) (log-length p) effects-log) × (length (get-log p .bytes) ≡ log-length p)
-  unfolding get-log
-  log-given z = go (same (part 0 16 p) effects-log-id) (leb (log-length p) mailbox-size) (leb (log-offset p + log-length p) effects-log-size) refl z
+  log-given : (log : List ℕ) → part-of-log log p .code ≡ 0 → (part-of-log log p .bytes ≡ part (log-offset p) (log-length p) log) × (length (part-of-log log p .bytes) ≡ log-length p)
+  unfolding part-of-log
+  log-given log z = go (same (part 0 16 p) effects-log-id) (leb (log-length p) mailbox-size) (leb (log-offset p + log-length p) (length log)) refl z
     where
       bytes : List ℕ
-      bytes = part (log-offset p) (log-length p) effects-log
+      bytes = part (log-offset p) (log-length p) log
 
-      go : (a b c : Bool) → leb (log-offset p + log-length p) effects-log-size ≡ c
+      go : (a b c : Bool) → leb (log-offset p + log-length p) (length log) ≡ c
           → need a (no-reply 23) (need b (no-reply 2) (need c (no-reply 2) (replied-bytes bytes))) .code ≡ 0
           → (need a (no-reply 23) (need b (no-reply 2) (need c (no-reply 2) (replied-bytes bytes))) .bytes ≡ bytes)
           × (length (need a (no-reply 23) (need b (no-reply 2) (need c (no-reply 2) (replied-bytes bytes))) .bytes) ≡ log-length p)
-      go true true true q z =
-          let l = leb-true (log-offset p + log-length p) effects-log-size q in
-          (refl, length-part (log-offset p) (log-length p) effects-log (omega (arith, effects-long)))
+      go true true true q z = (refl, length-part (log-offset p) (log-length p) log (leb-true (log-offset p + log-length p) (length log) q))
       go true true false q z = absurd (omega arith)
       go true false c q z = absurd (omega arith)
       go false b c q z = absurd (omega arith)
@@ -127,21 +125,28 @@ module _ (d : DeviceState) (plain : Plain d) (p : List ℕ) (time : ℕ) (area :
       let k = log-read event-records (d .logs) (getD p 0 0) z in
       rw (k .1) (log-holds (log-at (d .logs) (getD p 0 0)) (plain .logs (getD p 0 0) (k .0)))
 
-  logs-given : LogsTold (get-supported-logs .bytes)
-  logs-given = record { fields = logs-hold .fields; log = rw (logs-hold .records) log-listed }
+  logs-given : (m : Mailbox) → LogsTold m (get-supported-logs m .bytes)
+  logs-given m = record { fields = logs-hold m .fields; log = rw (logs-hold m .records) (log-listed m) }
 
-  part-given : get-log p .code ≡ 0 → LogTold p (get-log p .bytes)
-  part-given z = let k = log-given p z in record { size = log-taken (get-log p .bytes) (log-length p) (k .1); bytes = k .0 }
+  part-given : (m : Mailbox) → get-log m p .code ≡ 0 → LogTold m p (get-log m p .bytes)
+  part-given m z = let k = log-given p (effects-log m) z in record { size = log-taken (get-log m p .bytes) (log-length p) (k .1); bytes = k .0 }
 
   range-given : get-poison-list (lines-of d) (d .poison) p .code ≡ 0 → ListTold d p (get-poison-list (lines-of d) (d .poison) p .bytes)
   range-given z = rw (list-given p (lines-of d) (d .poison) z) (list-holds (d .poison) (plain .list) (line-of (field p 0 8)) (field p 8 8))
 
   -- ---- every opcode
-  -- an outcome whose reply a reading accepts, if its number is 0
+  -- a reply, and an outcome, that a reading accepts if its number is 0
+  record AcceptsReply (read : List ℕ → ℕ) (o : Reply) : Type 0 where
+    accepts : o .code ≡ 0 → read (o .bytes) ≡ 0
+
   record Accepts (read : List ℕ → ℕ) (o : Outcome) : Type 0 where
     accepts : o .code ≡ 0 → read (o .reply) ≡ 0
 
-  -- the outcome and the reading of one opcode, or those of the others
+  -- those of one opcode, or those of the others
+  told : (b : Bool) {r s : List ℕ → ℕ} {o q : Reply} → AcceptsReply r o → AcceptsReply s q → AcceptsReply (λ bs. cond b (r bs) (s bs)) (cond b o q)
+  told true h k = record { accepts = h .accepts }
+  told false h k = record { accepts = k .accepts }
+
   choice : (b : Bool) {r s : List ℕ → ℕ} {o q : Outcome} → Accepts r o → Accepts s q → Accepts (λ bs. cond b (r bs) (s bs)) (cond b o q)
   choice true h k = record { accepts = h .accepts }
   choice false h k = record { accepts = k .accepts }
@@ -154,25 +159,30 @@ module _ (d : DeviceState) (plain : Plain d) (p : List ℕ) (time : ℕ) (area :
   unfolding inject
   injection-silent = either (Accepts read-nothing) (inject-adds (lines-of d) (d .poison) p) (record { accepts = λ z. nothing-taken [] refl }) (silent _ _)
 
-  -- Sanitize is never answered Success (document 02, W-207: 0001h)
+  -- a command that both mailboxes have, to either of them (document 02, W-208)
+  tells-accepts : (m : Mailbox) (op : ℕ) → AcceptsReply (reading-told op (log-length p)) (telling m d op p time)
+  unfolding reading-told telling get-policy
+  tells-accepts m op =
+      told (eqb op 0x0100) (record { accepts = λ z. ap (λ (r : EventsRead). r .code) (events-given z .fields) })
+      (told (eqb op 0x0102) (record { accepts = λ z. ap (λ (r : PolicyRead). r .code) (policy-taken (d .policy) (plain .policy)) })
+      (told (eqb op 0x0300) (record { accepts = λ z. ap (λ (r : TimeRead). r .code) (time-holds d time) })
+      (told (eqb op 0x0400) (record { accepts = λ z. ap (λ (r : LogsRead). r .code) (logs-given m .fields) })
+      (told (eqb op 0x0401) (record { accepts = λ z. part-given m z .size })
+      (told (eqb op 0x4000) (record { accepts = λ z. ap (λ (r : IdentityRead). r .code) (identity-holds (d .volatile) (d .persistent) (plain .units)) })
+      (told (eqb op 0x4300) (record { accepts = λ z. ap (λ (r : ListRead). r .code) (range-given z .fields) })
+      (record { accepts = λ z. absurd (omega arith) })))))))
+
+  -- any command of the first mailbox but the label area's two. Sanitize is never answered Success (document 02, W-207: 0001h)
   run-accepts : (op : ℕ) → eqb op 0x4102 ≡ false → eqb op 0x4103 ≡ false → Accepts (reading-code op (log-length p)) (run-command d op p time area)
-  unfolding reading-code run-command clear-event-records get-policy
+  unfolding reading-code run-command clear-event-records
   run-accepts op i j =
       rw (i, j)
-      (choice (eqb op 0x0100) (record { accepts = λ z. ap (λ (r : EventsRead). r .code) (events-given z .fields) })
       (choice (eqb op 0x0101) (silent _ _)
-      (choice (eqb op 0x0102) (record { accepts = λ z. ap (λ (r : PolicyRead). r .code) (policy-taken (d .policy) (plain .policy)) })
       (choice (eqb op 0x0103) (silent _ _)
-      (choice (eqb op 0x0300) (record { accepts = λ z. ap (λ (r : TimeRead). r .code) (time-holds d time) })
       (choice (eqb op 0x0301) (silent _ _)
-      (choice (eqb op 0x0400) (record { accepts = λ z. ap (λ (r : LogsRead). r .code) (logs-given .fields) })
-      (choice (eqb op 0x0401) (record { accepts = λ z. part-given z .size })
-      (choice (eqb op 0x4000) (record { accepts = λ z. ap (λ (r : IdentityRead). r .code) (identity-holds (d .volatile) (d .persistent) (plain .units)) })
-      (choice (eqb op 0x4300) (record { accepts = λ z. ap (λ (r : ListRead). r .code) (range-given z .fields) })
       (choice (eqb op 0x4301) injection-silent
       (choice (eqb op 0x4302) (silent _ _)
-      (either (Accepts _) (eqb op 0x4400) (record { accepts = λ z. absurd (omega arith) })
-      (record { accepts = λ z. absurd (omega arith) }))))))))))))))
+      (either (Accepts (reading-told op (log-length p))) (eqb op 0x4400) (record { accepts = λ z. absurd (omega arith) }) (record { accepts = tells-accepts First op .accepts })))))))
 
 -- ---- commands answered with Success
 module _ (d : DeviceState) (plain : Plain d) (p : List ℕ) (time : ℕ) (area : List ℕ) (room : ℕ) where
@@ -189,31 +199,31 @@ module _ (d : DeviceState) (plain : Plain d) (p : List ℕ) (time : ℕ) (area :
 
   -- THE THEOREM of the fields, a command each: on Success the reply tells what the device's definitions say.
   pub events-told : outcome d 0x0100 p time area room .code ≡ 0 → EventsTold (ended d time) p (outcome d 0x0100 p time area room .reply)
-  unfolding run-command
+  unfolding run-command telling
   events-told = answered 0x0100 (EventsTold found p) (events-given found still p time area)
 
   pub policy-told : outcome d 0x0102 p time area room .code ≡ 0 → PolicyTold d (outcome d 0x0102 p time area room .reply)
-  unfolding run-command get-policy
+  unfolding run-command telling get-policy
   policy-told = answered 0x0102 (PolicyTold d) (λ z. policy-taken (d .policy) (plain .policy))
 
   pub time-told : outcome d 0x0300 p time area room .code ≡ 0 → TimeTold d time (outcome d 0x0300 p time area room .reply)
-  unfolding run-command
+  unfolding run-command telling
   time-told = answered 0x0300 (TimeTold d time) (λ z. time-holds d time)
 
-  pub logs-told : outcome d 0x0400 p time area room .code ≡ 0 → LogsTold (outcome d 0x0400 p time area room .reply)
-  unfolding run-command
-  logs-told = answered 0x0400 LogsTold (λ z. logs-given found still p time area)
+  pub logs-told : outcome d 0x0400 p time area room .code ≡ 0 → LogsTold First (outcome d 0x0400 p time area room .reply)
+  unfolding run-command telling
+  logs-told = answered 0x0400 (LogsTold First) (λ z. logs-given found still p time area First)
 
-  pub log-told : outcome d 0x0401 p time area room .code ≡ 0 → LogTold p (outcome d 0x0401 p time area room .reply)
-  unfolding run-command
-  log-told = answered 0x0401 (LogTold p) (part-given found still p time area)
+  pub log-told : outcome d 0x0401 p time area room .code ≡ 0 → LogTold First p (outcome d 0x0401 p time area room .reply)
+  unfolding run-command telling
+  log-told = answered 0x0401 (LogTold First p) (part-given found still p time area First)
 
   pub identity-told : outcome d 0x4000 p time area room .code ≡ 0 → IdentityTold d (outcome d 0x4000 p time area room .reply)
-  unfolding run-command
+  unfolding run-command telling
   identity-told = answered 0x4000 (IdentityTold d) (λ z. identity-holds (d .volatile) (d .persistent) (plain .units))
 
   pub list-told : outcome d 0x4300 p time area room .code ≡ 0 → ListTold d p (outcome d 0x4300 p time area room .reply)
-  unfolding run-command
+  unfolding run-command telling
   list-told = answered 0x4300 (ListTold d p) (range-given found still p time area)
 
 -- THE THEOREM of acceptance: every reply that the device gives on Success, to any opcode but those of the label area (the library reads the replies of document 01's twelve commands), is accepted by

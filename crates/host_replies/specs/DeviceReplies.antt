@@ -18,7 +18,8 @@ use Rattle.commands.specs.Numbers.{event-records, poison-records}
 use Rattle.mailbox.specs.State.{DeviceState}
 use Rattle.commands.specs.Identity.{version}
 use Rattle.settings.specs.Clock.{device-time}
-use Rattle.commands.specs.EffectsLog.{effects-log, effects-log-id, effects-log-size, log-offset, log-length}
+use Rattle.commands.specs.EffectsLog.{effects-log, effects-log-id, effects-size, log-offset, log-length}
+use Rattle.commands.specs.declared.mailboxes.Mailbox.{Mailbox}
 use Rattle.list_commands.specs.PoisonCommands.{line-of, list-flags}
 use Rattle.host_replies.specs.declared.counted.Kind.{Kind}
 use Rattle.host_replies.specs.declared.counted.Kind.the-variants.{EventRecords, SupportedLogs, PoisonList}
@@ -30,21 +31,27 @@ use Rattle.host_replies.specs.Replies.{read-event-records, read-policy, 
 use Rattle.host_replies.specs.Replies.{supported-log}
 
 -- ---- the number that the reading of an opcode's reply gives; `asked` is the length that a Get Log asked for
-unfoldable pub reading-code : (op asked : ℕ) → List ℕ → ℕ
-reading-code op asked bs =
+-- of a command that both mailboxes have (document 02, W-208)
+unfoldable pub reading-told : (op asked : ℕ) → List ℕ → ℕ
+reading-told op asked bs =
     cond (eqb op 0x0100) (read-event-records bs .code)
-    (cond (eqb op 0x0101) (read-nothing bs)
     (cond (eqb op 0x0102) (read-policy bs .code)
-    (cond (eqb op 0x0103) (read-nothing bs)
     (cond (eqb op 0x0300) (read-timestamp bs .code)
-    (cond (eqb op 0x0301) (read-nothing bs)
     (cond (eqb op 0x0400) (read-supported-logs bs .code)
     (cond (eqb op 0x0401) (read-log asked bs)
     (cond (eqb op 0x4000) (read-identity bs .code)
     (cond (eqb op 0x4300) (read-poison-list bs .code)
+    unsupported))))))
+
+-- of any of document 01's twelve: the five that the first mailbox alone has reply nothing
+unfoldable pub reading-code : (op asked : ℕ) → List ℕ → ℕ
+reading-code op asked bs =
+    cond (eqb op 0x0101) (read-nothing bs)
+    (cond (eqb op 0x0103) (read-nothing bs)
+    (cond (eqb op 0x0301) (read-nothing bs)
     (cond (eqb op 0x4301) (read-nothing bs)
     (cond (eqb op 0x4302) (read-nothing bs)
-    unsupported)))))))))))
+    (reading-told op asked bs)))))
 
 -- ---- a device whose numbers have the widths of document 01's fields
 -- a log: records of 128 bytes, and an overflow count and times of their widths
@@ -133,15 +140,15 @@ PolicyTold d bs = read-policy bs ≡ record { code = success; settings = d .poli
 abbrev pub TimeTold : DeviceState → (time : ℕ) (reply : List ℕ) → Type 0
 TimeTold d time bs = read-timestamp bs ≡ record { code = success; time = device-time (d .clock) time }
 
--- Get Supported Logs: one log, the Command Effects Log with its size
-pub record LogsTold (bs : List ℕ) : Type 0 where
+-- Get Supported Logs: one log, the Command Effects Log of the mailbox that asks with its size
+pub record LogsTold (mailbox : Mailbox) (bs : List ℕ) : Type 0 where
   pub fields : read-supported-logs bs ≡ record { code = success; place = 0; count = 1 }
-  pub log : supported-log (drop (header-size SupportedLogs) bs) 0 ≡ record { identifier = effects-log-id; size = effects-log-size }
+  pub log : supported-log (drop (header-size SupportedLogs) bs) 0 ≡ record { identifier = effects-log-id; size = effects-size mailbox }
 
 -- Get Log: as many bytes of the log as were asked for, from the offset on
-pub record LogTold (p bs : List ℕ) : Type 0 where
+pub record LogTold (mailbox : Mailbox) (p bs : List ℕ) : Type 0 where
   pub size : read-log (log-length p) bs ≡ success
-  pub bytes : bs ≡ part (log-offset p) (log-length p) effects-log
+  pub bytes : bs ≡ part (log-offset p) (log-length p) (effects-log mailbox)
 
 -- Identify: the units and document 01's numbers
 abbrev pub IdentityTold : DeviceState → (reply : List ℕ) → Type 0

@@ -26,7 +26,7 @@ use Rattle.mailbox.specs.Ending.{ended}
 use Rattle.settings.specs.Policy.{known-modes, set-policy, set-interrupt-policy}
 use Rattle.settings.specs.Reply.{replied, no-reply}
 use Rattle.mailbox.specs.Outcome.{Outcome, reads, changes, refused}
-use Rattle.commands.specs.Commands.{commands, admission, while-disabled, blocked}
+use Rattle.commands.specs.Commands.{commands, rows-of, checked, admission, while-disabled, blocked}
 use Rattle.settings.specs.Clock as Clock
 use Rattle.mailbox.specs.EventCommands as Events
 use Rattle.commands.specs.EffectsLog as Logs
@@ -38,6 +38,7 @@ use Rattle.poison.specs.State.{PoisonState, covers}
 use Rattle.poison.specs.Inject.{with-entry}
 use Rattle.poison.specs.Clear.{after-clear}
 use Rattle.mailbox.specs.DeviceCalls.{EventOutcome, event-answer}
+use Rattle.mailbox.specs.Telling.{telling}
 use Rattle.mailbox.specs.Mailbox.{changes-policy, changes-list, reports, inject, run-command, answer}
 use Rattle.commands.proofs.Laws.{first-admitted}
 use Rattle.mailbox.proofs.Laws.{allowed-runs, clear-events-admitted}
@@ -90,31 +91,31 @@ got-meant true x d = refl
 got-meant false x d = refl
 
 get-taken : (log : ℕ) → log < 256 → Taken (Q.get-event-records log)
-unfolding opcode payload admission commands while-disabled run-command Events.get-event-records Get.get-event-records Get.get-code meant le
+unfolding opcode payload admission checked commands rows-of while-disabled run-command telling Events.get-event-records Get.get-event-records Get.get-code meant le
 get-taken log small =
     let e : log % 256 ≡ log = omega arith in
     taking (Q.get-event-records log) refl (λ room h. rw (le-leb mailbox-size room h)) e (λ d time area. rw e (got-meant (ltb log 5) (Get.reply-bytes event-records (log-at (d .logs) log)) d))
 
 -- ---- requests with no payload
 plain-policy : Taken Q.get-event-interrupt-policy
-unfolding opcode payload admission commands while-disabled run-command meant
+unfolding opcode payload admission checked commands rows-of while-disabled run-command telling meant
 plain-policy = taking Q.get-event-interrupt-policy refl (λ room h. rw (le-leb mailbox-size room h)) refl (λ d time area. refl)
 
 plain-time : Taken Q.get-timestamp
-unfolding opcode payload admission commands while-disabled run-command meant
+unfolding opcode payload admission checked commands rows-of while-disabled run-command telling meant
 plain-time = taking Q.get-timestamp refl (λ room h. rw (le-leb mailbox-size room h)) refl (λ d time area. refl)
 
 plain-logs : Taken Q.get-supported-logs
-unfolding opcode payload admission commands while-disabled run-command meant
+unfolding opcode payload admission checked commands rows-of while-disabled run-command telling meant
 plain-logs = taking Q.get-supported-logs refl (λ room h. rw (le-leb mailbox-size room h)) refl (λ d time area. refl)
 
 plain-identify : Taken Q.identify
-unfolding opcode payload admission commands while-disabled run-command meant
+unfolding opcode payload admission checked commands rows-of while-disabled run-command telling meant
 plain-identify = taking Q.identify refl (λ room h. rw (le-leb mailbox-size room h)) refl (λ d time area. refl)
 
 -- ---- one number
 set-time-taken : (value : ℕ) → value < 256 ^ 8 → Taken (Q.set-timestamp value)
-unfolding opcode payload admission commands while-disabled run-command meant Clock.set-timestamp
+unfolding opcode payload admission checked commands rows-of while-disabled run-command telling meant Clock.set-timestamp
 set-time-taken value small =
     taking (Q.set-timestamp value) refl (λ room h. rw (length-le 8 value, le-leb mailbox-size room h)) (number-read 8 value small)
     (λ d time area. rw (number-read 8 value small))
@@ -127,7 +128,7 @@ set-meant true new d = refl
 set-meant false new d = refl
 
 settings-taken : (settings : List ℕ) → countable (Q.set-event-interrupt-policy settings) ≡ true → Taken (Q.set-event-interrupt-policy settings)
-unfolding opcode payload admission commands while-disabled run-command set-interrupt-policy meant countable
+unfolding opcode payload admission checked commands rows-of while-disabled run-command telling set-interrupt-policy meant countable
 settings-taken settings c =
     taking (Q.set-event-interrupt-policy settings) refl (λ room h. go room h (ℕ-discrete (length settings) 4)) refl
     (λ d time area. set-meant (known-modes settings) (set-policy (d .policy) settings) d)
@@ -146,7 +147,7 @@ log-fields id offset size e ho hs = (
 )
 
 log-taken : (id : List ℕ) (offset size : ℕ) → length id ≡ 16 → offset < 256 ^ 4 → size < 256 ^ 4 → Taken (Q.get-log id offset size)
-unfolding opcode payload admission commands while-disabled run-command meant Logs.get-log
+unfolding opcode payload admission checked commands rows-of while-disabled run-command telling meant Logs.part-of-log
 log-taken id offset size e ho hs =
     let f = log-fields id offset size e ho hs in
     let l : length (id ++ le 4 offset ++ le 4 size) ≡ 24 = simp (length-append, length-le) (omega arith) in
@@ -159,7 +160,7 @@ list-fields address lines ha hl =
     (field-front 0 8 (le 8 address) (le 8 lines) (simp length-le (omega arith)) ∙ number-read 8 address ha, field-past 0 8 8 (le 8 address) (le 8 lines) (simp length-le) ∙ number-read 8 lines hl)
 
 list-taken : (address lines : ℕ) → address < 256 ^ 8 → lines < 256 ^ 8 → Taken (Q.get-poison-list address lines)
-unfolding opcode payload admission commands while-disabled run-command meant Poison.get-poison-list
+unfolding opcode payload admission checked commands rows-of while-disabled run-command telling meant Poison.get-poison-list
 list-taken address lines ha hl =
     let f = list-fields address lines ha hl in
     let l : length (le 8 address ++ le 8 lines) ≡ 16 = simp (length-append, length-le) in
@@ -177,7 +178,7 @@ inject-meant d c x e false true true = refl
 inject-meant d c x e false false true = refl
 
 inject-taken : (address : ℕ) → address < 256 ^ 8 → Taken (Q.inject-poison address)
-unfolding opcode payload admission commands while-disabled run-command meant inject Poison.inject-poison Poison.inject-adds
+unfolding opcode payload admission checked commands rows-of while-disabled run-command telling meant inject Poison.inject-poison Poison.inject-adds
 inject-taken address ha =
     let f = number-read 8 address ha in
     let k = Poison.line-of address in
@@ -199,7 +200,7 @@ clear-fields address bs ha e =
     (field-front 0 8 (le 8 address) bs (simp length-le (omega arith)) ∙ number-read 8 address ha, part-past 0 64 8 (le 8 address) bs (simp length-le) ∙ part-whole 64 bs e)
 
 poison-taken : (address : ℕ) (bs : List ℕ) → address < 256 ^ 8 → length bs ≡ 64 → Taken (Q.clear-poison address bs)
-unfolding opcode payload admission commands while-disabled run-command meant Poison.clear-poison
+unfolding opcode payload admission checked commands rows-of while-disabled run-command telling meant Poison.clear-poison
 poison-taken address bs ha e =
     let f = clear-fields address bs ha e in
     let l : length (le 8 address ++ bs) ≡ 72 = simp (length-append, length-le) (omega arith) in

@@ -23,9 +23,10 @@ use Rattle.mailbox.specs.Outcome.{Outcome, reads, changes, refused}
 use Rattle.settings.specs.Clock.{device-time}
 use Rattle.settings.specs.Clock as Clock
 use Rattle.settings.specs.Policy.{get-policy, known-modes, set-policy}
-use Rattle.commands.specs.EffectsLog.{effects-log, effects-log-id, effects-log-size, log-offset, log-length}
+use Rattle.commands.specs.EffectsLog.{effects-log, effects-log-id, effects-size, log-offset, log-length}
 use Rattle.commands.specs.EffectsLog as Logs
 use Rattle.commands.specs.Identity as Identity
+use Rattle.commands.specs.declared.mailboxes.Mailbox.the-variants.{First}
 use Rattle.list_commands.specs.PoisonCommands.{line-of, line-code, range-code, list-reply, injection-record}
 use Rattle.commands.specs.Commands.{admission}
 use Rattle.mailbox.specs.DeviceCalls.{event-answer}
@@ -55,13 +56,13 @@ clearing s all handles =
 abbrev pub cleared : DeviceState → ℕ → ClearedState → Outcome
 cleared d log c = changes (c .code) (with-logs d (clear-taken (d .logs) log c .logs))
 
--- Get Log: "other identifier 0017h; length over 2,048 or offset plus length over the size, 0002h; reply those bytes"
+-- Get Log, of the effects log of the first mailbox (document 02, W-208): "other identifier 0017h; length over 2,048 or offset plus length over the size, 0002h; reply those bytes"
 abbrev pub part-of-log : List ℕ → ℕ → ℕ → Reply
 part-of-log identifier offset size =
     need (same identifier effects-log-id) (no-reply invalid-log)
     (need (leb size mailbox-size) (no-reply invalid-input)
-    (need (leb (offset + size) effects-log-size) (no-reply invalid-input)
-    (replied (part offset size effects-log))))
+    (need (leb (offset + size) (effects-size First)) (no-reply invalid-input)
+    (replied (part offset size (effects-log First)))))
 
 -- Get Poison List of lines from an address on: "unaligned 0002h; end past the device 000Fh"
 abbrev pub list-of : DeviceState → ℕ → ℕ → Reply
@@ -98,7 +99,7 @@ meant (set-event-interrupt-policy settings) d time =
     need (known-modes settings) (refused invalid-input d) (changes success (with-policy d (set-policy (d .policy) settings)))
 meant get-timestamp d time = reads d (Clock.get-timestamp (d .clock) time)
 meant (set-timestamp value) d time = changes success (with-clock d (record { set = true; value = value; since = time }))
-meant get-supported-logs d time = reads d Logs.get-supported-logs
+meant get-supported-logs d time = reads d (Logs.get-supported-logs First)
 meant (get-log identifier offset size) d time = reads d (part-of-log identifier offset size)
 meant identify d time = reads d (Identity.identify (d .volatile) (d .persistent))
 meant (get-poison-list address lines) d time = reads d (list-of d address lines)

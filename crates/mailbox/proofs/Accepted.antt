@@ -1,4 +1,4 @@
--- A command that is answered 0000h, or that the checks before its own let through, is the command of its opcode. Assumes nothing.
+-- A command that is answered 0000h, or that the checks before its own let through, is the command of its opcode; one that they refuse is answered with their number. Assumes nothing.
 use mathlib.Core.Path.{_≡_, refl, sym, _∙_}
 use mathlib.Core.List.{List}
 use Prim.Native.Nat.{ℕ, _≤_}
@@ -9,6 +9,7 @@ use Rattle.labels.specs.Labels.{label-size}
 use Rattle.commands.specs.Numbers.{mailbox-size}
 use Rattle.mailbox.specs.State.{DeviceState}
 use Rattle.commands.specs.Commands.{commands, admission, while-disabled, first-code}
+use Rattle.mailbox.specs.Outcome.{refused}
 use Rattle.mailbox.specs.Mailbox.{run-command, answer}
 use Rattle.commands.proofs.Laws.{admission-at, first-allowed}
 
@@ -16,6 +17,10 @@ module _ (d : DeviceState) (op : ℕ) (p : List ℕ) (time : ℕ) (area : List �
   pub admitted-runs : first-code (d .media .disabled) op (length p) (length area) room ≡ 0 → answer d op p time area room ≡ run-command d op p time area
   unfolding answer
   admitted-runs z = rw (eq-eqb (first-code (d .media .disabled) op (length p) (length area) room) 0 z)
+
+  pub answer-refused : {code : ℕ} → code ≡ first-code (d .media .disabled) op (length p) (length area) room → (code ≡ 0 → ⊥) → answer d op p time area room ≡ refused code d
+  unfolding answer
+  answer-refused e f = simp (sym e, ne-eqb _ _ f)
 
   -- one that media disabled allows, past the other checks before its own
   pub allowed-runs : while-disabled op ≡ 0 → admission op (length p) (length area) room ≡ 0 → answer d op p time area room ≡ run-command d op p time area

@@ -8,7 +8,7 @@ use borrow.Author.Tests.{eqb-true}
 use lib.Dec.{leb, eqb}
 use lib.ListN.{length}
 use Rattle.wire.specs.Wire.{field, part, same}
-use Rattle.wire.specs.Returns.{success, started, unsupported}
+use Rattle.wire.specs.Returns.{success, started}
 use Rattle.wire.proofs.Laws.{either}
 use Rattle.poison.specs.State.{PoisonState}
 use Rattle.events.specs.Log.{LogState}
@@ -17,8 +17,10 @@ use Rattle.labels.specs.Labels.{get-labels, set-code}
 use Rattle.labels.proofs.Laws.{get-refused}
 use Rattle.commands.specs.Numbers.{mailbox-size}
 use Rattle.settings.specs.Reply.{Reply, replied, no-reply}
-use Rattle.commands.specs.EffectsLog.{effects-log-size, effects-log-id, log-offset, log-length, get-supported-logs, get-log}
+use Rattle.commands.specs.EffectsLog.{effects-log-id, log-offset, log-length, get-supported-logs, part-of-log}
 use Rattle.commands.specs.Identity.{identify}
+use Rattle.commands.specs.declared.mailboxes.Mailbox.{Mailbox}
+use Rattle.commands.specs.declared.mailboxes.Mailbox.the-variants.{First}
 use Rattle.commands.specs.Commands.{first-code}
 use Rattle.settings.specs.Clock.{device-time, get-timestamp}
 use Rattle.settings.specs.declared.clock.Clock.{Clock}
@@ -28,6 +30,7 @@ use Rattle.list_commands.specs.PoisonCommands.{range-code, get-poison-list, cle
 use Rattle.mailbox.specs.State.{DeviceState, lines-of, with-clock, with-media}
 use Rattle.mailbox.specs.Outcome.{Outcome, reads, changes}
 use Rattle.mailbox.specs.EventCommands.{get-event-records, clear-event-records}
+use Rattle.mailbox.specs.Telling.{telling}
 use Rattle.mailbox.specs.Mailbox.{changes-policy, changes-list, inject, run-command, answer}
 
 -- ---- replies: a refusal has none
@@ -37,19 +40,19 @@ pub record Silent (o : Reply) : Type 0 where
 success-silent : (bs : List ℕ) → Silent (replied bs)
 success-silent bs = record { silent = λ h. absurd (h refl) }
 
-refusal-silent : (n : ℕ) → Silent (no-reply n)
+pub refusal-silent : (n : ℕ) → Silent (no-reply n)
 refusal-silent n = record { silent = λ h. refl }
 
 events-silent : (ls : List LogState) (p : List ℕ) → Silent (get-event-records ls p)
 unfolding get-event-records
 events-silent ls p = record { silent = refused-get-replies-nothing _ ls _ }
 
-log-silent : (p : List ℕ) → Silent (get-log p)
-unfolding get-log
-log-silent p =
+log-silent : (log p : List ℕ) → Silent (part-of-log log p)
+unfolding part-of-log
+log-silent log p =
     either Silent (same (part 0 16 p) effects-log-id)
     (either Silent (leb (log-length p) mailbox-size)
-    (either Silent (leb (log-offset p + log-length p) effects-log-size) (success-silent _) (refusal-silent _))
+    (either Silent (leb (log-offset p + log-length p) (length log)) (success-silent _) (refusal-silent _))
     (refusal-silent _))
     (refusal-silent _)
 
@@ -59,6 +62,18 @@ labels-silent p area = record { silent = get-refused mailbox-size p area }
 list-silent : (lines : ℕ) (s : PoisonState) (p : List ℕ) → Silent (get-poison-list lines s p)
 unfolding get-poison-list
 list-silent lines s p = either Silent (eqb (range-code lines (field p 0 8) (field p 8 8)) 0) (success-silent _) (refusal-silent _)
+
+-- a command that both mailboxes have, whichever of them asks (document 02, W-208)
+pub telling-silent : (m : Mailbox) (d : DeviceState) (op : ℕ) (p : List ℕ) (time : ℕ) → Silent (telling m d op p time)
+unfolding telling get-policy get-timestamp get-supported-logs identify
+telling-silent m d op p time =
+    either Silent (eqb op 0x0100) (events-silent _ p)
+    (either Silent (eqb op 0x0102) (success-silent _)
+    (either Silent (eqb op 0x0300) (success-silent _)
+    (either Silent (eqb op 0x0400) (success-silent _)
+    (either Silent (eqb op 0x0401) (log-silent _ p)
+    (either Silent (eqb op 0x4000) (success-silent _)
+    (either Silent (eqb op 0x4300) (list-silent _ _ p) (refusal-silent _)))))))
 
 -- ---- what an outcome o of opcode op moves of device d: nothing, where it reads or is refused (then with no reply); or what the definition of the one command says that moves this part. Of the clock and of media it is
 -- enough to know that they alone move.
@@ -82,24 +97,17 @@ module _ (d : DeviceState) (op : ℕ) (p : List ℕ) (time : ℕ) where
 
   -- a command past the checks before its own
   pub run-moves : (area : List ℕ) → Moved d op p time (run-command d op p time area)
-  unfolding run-command get-policy get-timestamp get-supported-logs identify
+  unfolding run-command
   run-moves area =
-      at 0x0100 (λ e. nothing _ refl (events-silent _ p))
-      (at 0x0101 (λ e. one-log e refl)
-      (at 0x0102 (λ e. nothing _ refl (success-silent _))
+      at 0x0101 (λ e. one-log e refl)
       (at 0x0103 (λ e. settings e refl)
-      (at 0x0300 (λ e. nothing _ refl (success-silent _))
       (at 0x0301 (λ e. the-clock e _ refl)
-      (at 0x0400 (λ e. nothing _ refl (success-silent _))
-      (at 0x0401 (λ e. nothing _ refl (log-silent p))
-      (at 0x4000 (λ e. nothing _ refl (success-silent _))
       (at 0x4102 (λ e. nothing _ refl (labels-silent p area))
       (at 0x4103 (λ e. nothing (no-reply (set-code p)) refl (refusal-silent _))
-      (at 0x4300 (λ e. nothing _ refl (list-silent _ _ p))
       (at 0x4301 (λ e. list-and-log e refl)
       (at 0x4302 (λ e. the-list e refl)
       (at 0x4400 (λ e. the-media e _ refl)
-      (nothing (no-reply unsupported) refl (refusal-silent _))))))))))))))))
+      (nothing _ refl (telling-silent First d op p time)))))))))
 
   -- any command: one that a check before its own refuses moves nothing
   pub answer-moves : (area : List ℕ) (room : ℕ) → Moved d op p time (answer d op p time area room)

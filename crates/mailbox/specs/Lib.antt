@@ -4,6 +4,7 @@ pub mod Ending
 pub mod LineStatus
 pub mod Outcome
 pub mod EventCommands
+pub mod Telling
 pub mod DeviceCalls
 pub mod Mailbox
 pub mod Contracts

@@ -6,19 +6,19 @@ use lib.Dec.{eqb}
 use lib.ListN.{length}
 use Rattle.labels.specs.Labels.{get-labels, set-code, set-labels}
 use Rattle.wire.specs.Wire.{field}
-use Rattle.wire.specs.Returns.{success, started, unsupported, need}
+use Rattle.wire.specs.Returns.{success, started, need}
 use Rattle.commands.specs.Numbers.{mailbox-size}
 use Rattle.mailbox.specs.State.{DeviceState, lines-of, with-clock, with-policy, with-poison, with-media}
 use Rattle.mailbox.specs.Ending.{ended}
 use Rattle.mailbox.specs.Outcome.{Outcome, reads, changes, refused}
 use Rattle.commands.specs.Commands.{first-code}
-use Rattle.settings.specs.Clock.{device-time, get-timestamp, set-timestamp}
+use Rattle.settings.specs.Clock.{device-time, set-timestamp}
 use Rattle.settings.specs.Media.{sanitize}
-use Rattle.settings.specs.Policy.{PolicyChange, get-policy, set-interrupt-policy}
-use Rattle.commands.specs.EffectsLog.{get-supported-logs, get-log}
-use Rattle.commands.specs.Identity.{identify}
-use Rattle.mailbox.specs.EventCommands.{get-event-records, clear-event-records}
-use Rattle.list_commands.specs.PoisonCommands.{ListChange, get-poison-list, inject-poison, inject-adds, injection-record, clear-poison}
+use Rattle.settings.specs.Policy.{PolicyChange, set-interrupt-policy}
+use Rattle.commands.specs.declared.mailboxes.Mailbox.the-variants.{First}
+use Rattle.mailbox.specs.EventCommands.{clear-event-records}
+use Rattle.list_commands.specs.PoisonCommands.{ListChange, inject-poison, inject-adds, injection-record, clear-poison}
+use Rattle.mailbox.specs.Telling.{telling}
 use Rattle.mailbox.specs.DeviceCalls.{EventOutcome, event-answer}
 
 -- the outcome of a command that changes the settings, and of one that changes the poison list
@@ -44,25 +44,18 @@ inject d p time =
     (reports success (event-answer (injected d p) time 0 (injection-record (field p 0 8))))
     (changes-list d (inject-poison (lines-of d) (d .poison) p))
 
--- the command of an opcode, after the checks before its own
+-- the command of an opcode, after the checks before its own: the first mailbox's own commands, then those that both mailboxes have
 unfoldable pub run-command : DeviceState → ℕ → List ℕ → ℕ → List ℕ → Outcome
 run-command d op p time area =
-    cond (eqb op 0x0100) (reads d (get-event-records (d .logs) p))
-    (cond (eqb op 0x0101) (clear-event-records d p)
-    (cond (eqb op 0x0102) (reads d (get-policy (d .policy)))
+    cond (eqb op 0x0101) (clear-event-records d p)
     (cond (eqb op 0x0103) (changes-policy d (set-interrupt-policy (d .policy) p))
-    (cond (eqb op 0x0300) (reads d (get-timestamp (d .clock) time))
     (cond (eqb op 0x0301) (changes success (with-clock d (set-timestamp p time)))
-    (cond (eqb op 0x0400) (reads d get-supported-logs)
-    (cond (eqb op 0x0401) (reads d (get-log p))
-    (cond (eqb op 0x4000) (reads d (identify (d .volatile) (d .persistent)))
     (cond (eqb op 0x4102) (reads d (get-labels mailbox-size p area))
     (cond (eqb op 0x4103) (changes (set-code p) d)
-    (cond (eqb op 0x4300) (reads d (get-poison-list (lines-of d) (d .poison) p))
     (cond (eqb op 0x4301) (inject d p time)
     (cond (eqb op 0x4302) (changes-list d (clear-poison (lines-of d) (d .poison) p (device-time (d .clock) time)))
     (cond (eqb op 0x4400) (changes started (with-media d (sanitize (d .volatile + d .persistent) time)))
-    (refused unsupported d)))))))))))))))
+    (reads d (telling First d op p time)))))))))
 
 -- the answer to a command on the device that it finds: "Order for a command", what media disabled refuses, then the command
 unfoldable pub answer : DeviceState → ℕ → List ℕ → ℕ → List ℕ → ℕ → Outcome

@@ -6,3 +6,4 @@ pub mod by_parts;
 pub mod device;
 pub mod device_calls;
 pub mod line_status;
+mod telling;

@@ -32,6 +32,10 @@ invalid-address = 0xf
 abbrev pub inject-limit : ℕ
 inject-limit = 0x10
 
+-- an opcode that the device has and the mailbox that asks has not (document 02, W-208)
+abbrev pub unsupported-mailbox : ℕ
+unsupported-mailbox = 0x15
+
 abbrev pub invalid-length : ℕ
 invalid-length = 0x16
 

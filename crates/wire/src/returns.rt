@@ -19,6 +19,9 @@ pub const INVALID_ADDRESS: u16 = 0xf;
 
 pub const INJECT_LIMIT: u16 = 0x10;
 
+// An opcode that the device has and the mailbox that asks has not (document 02, W-208).
+pub const UNSUPPORTED_MAILBOX: u16 = 0x15;
+
 pub const INVALID_LENGTH: u16 = 0x16;
 
 pub const INVALID_LOG: u16 = 0x17;

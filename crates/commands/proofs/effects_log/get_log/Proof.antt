@@ -1,85 +1,63 @@
 -- `commands::effects_log::get_log` meets its contract. Assumes nothing.
-use denote.Ref.{now}
-use Rattle.wire.specs.Wire.{same, part, field, splice}
-use Rattle.commands.specs.EffectsLog.{effects-log, effects-log-id}
-use Rattle.settings.proofs.Laws.{no-bytes, bytes-written}
-use Rattle.commands.proofs.EffectsLaws.{log-other, log-long, log-past, log-part, effects-are}
-use Rattle.wire.proofs.Laws.{length-part}
-use borrow.Author.Tests.{not-true, not-false}
-use mathlib.Core.Path.{_≡_, sym, ap, _∙_}
-use mathlib.Core.Bool.{true}
+use mathlib.Core.Path.{_≡_, sym, ap, _∙_, subst}
 use mathlib.Core.List.{List}
-use Prim.Native.Nat.{ℕ, _-_}
-use native.Mathlib.Omega.{arith}
+use Prim.Native.Nat.{ℕ}
 use borrow.Author.Needs.{needs}
+use Rattle.wire.specs.declared.done.Done.{Done}
+use Rattle.settings.specs.Contracts.{Replied}
+use Rattle.commands.specs.declared.mailboxes.Mailbox.{Mailbox}
+use Rattle.commands.specs.declared.mailboxes.Mailbox.the-variants.{First, Pool}
+use Rattle.commands.specs.EffectsLog.{effects-log, part-of-log}
+use Rattle.commands.proofs.EffectsLaws.{effects-are, pool-effects-are}
 use Rattle.commands.proofs.effects_log.get_log.Statement.{statement}
 use Rattle.commands.proofs.effects_log.get_log.Tie as tie
 
-slice-aggregate-matches : tie.Need-slice-aggregate-matches
-slice-aggregate-matches c = search needs
+-- a part of the source's table is one of the log of the mailbox that the match found
+at : (m f : Mailbox) (table p : List ℕ) {r : Done} {before after : List ℕ} → m ≡ f → table ≡ effects-log f → Replied (part-of-log table p) r before after
+    → Replied (part-of-log (effects-log m) p) r before after
+at m f table p {r} {before} {after} e t a = subst (λ (l : List ℕ). Replied (part-of-log l p) r before after) (t ∙ sym (ap effects-log e)) a
 
-matches-requires : tie.Need-matches-requires
-matches-requires c κs = search needs
+enum-told : tie.Need-enum-told
+enum-told c = search needs
 
--- past the second test the identifier is the effects log's
-same-identifier : (c : tie.Else1) → same (part 0 16 (now (c .before .before .before .before .before .args .payload))) effects-log-id ≡ true
-unfolding effects-log-id
-same-identifier c = sym (c .before .matches .ensures) ∙ not-false (c .before .matches .result) (c .if1 .left)
+slice-aggregate-part-of-log : tie.Need-slice-aggregate-part-of-log
+slice-aggregate-part-of-log c = search needs
 
-returns : tie.Need-returns
-unfolding effects-log-id
-returns c = no-bytes (log-other _ (sym (c .before .matches .ensures) ∙ not-true (c .before .matches .result) (c .if1 .taken)))
+part-of-log-requires : tie.Need-part-of-log-requires
+part-of-log-requires c κs = search needs
 
-get-requires : tie.Need-get-requires
-get-requires c κs = search needs
+enum-told-2 : tie.Need-enum-told-2
+enum-told-2 c = search needs
 
-get-requires-2 : tie.Need-get-requires-2
-get-requires-2 c κs = search needs
+slice-aggregate-part-of-log-2 : tie.Need-slice-aggregate-part-of-log-2
+slice-aggregate-part-of-log-2 c = search needs
 
-returns-2 : tie.Need-returns-2
-unfolding effects-log-id
-returns-2 c = no-bytes (log-long _ (same-identifier (c .before .before .before)) (search needs))
-
-add-if3 : tie.Need-add-if3
-add-if3 c = search needs
-
-returns-3 : tie.Need-returns-3
-unfolding effects-log-id
-returns-3 c = no-bytes (log-past _ (same-identifier (c .before .before .before .before)) (search needs) (search needs))
-
-slice-aggregate-copy : tie.Need-slice-aggregate-copy
-slice-aggregate-copy c = search needs
-
-copy-requires : tie.Need-copy-requires
-copy-requires c κs = search needs
+part-of-log-requires-2 : tie.Need-part-of-log-requires-2
+part-of-log-requires-2 c κs = search needs
 
 same-length : tie.Need-same-length
 same-length c = search needs
 
-returns-4 : tie.Need-returns-4
-unfolding effects-log-id
-returns-4 c =
-    let g = c .before .before .before .before .before .before .before in
-    let f = g .before in
-    let start = f .before .before .before .before .before .before in
-    let p = now (start .args .payload) in
-    bytes-written (log-part _ (same-identifier (f .before)) (search needs) (search needs))
-    (g .get2 .ensures .value ∙ sym (length-part (field p 16 4) (field p 20 4) effects-log (rw (← effects-are) (omega arith))))
-    ((cc) ∙ ap (λ (l : List ℕ). splice 0 (part (field p 16 4) (field p 20 4) l) (now (start .args .reply))) effects-are)
+returns : tie.Need-returns
+returns c = at _ First _ _ (search needs) effects-are (c .before .before .part-of-log .ensures)
+
+same-length-2 : tie.Need-same-length-2
+same-length-2 c = search needs
+
+returns-2 : tie.Need-returns-2
+returns-2 c = at _ Pool _ _ (search needs) pool-effects-are (c .before .before .part-of-log2 .ensures)
 
 pub get-log-spec : {M : Type 1} → statement M
 get-log-spec =
     tie.close
     (tie.spec
-    slice-aggregate-matches
-    matches-requires
-    returns
-    get-requires
-    get-requires-2
-    returns-2
-    add-if3
-    returns-3
-    slice-aggregate-copy
-    copy-requires
+    enum-told
+    slice-aggregate-part-of-log
+    part-of-log-requires
+    enum-told-2
+    slice-aggregate-part-of-log-2
+    part-of-log-requires-2
     same-length
-    returns-4)
+    returns
+    same-length-2
+    returns-2)

@@ -20,6 +20,9 @@ slice-aggregate-copy c = search needs
 copy-requires : tie.Need-copy-requires
 copy-requires c κs = search needs
 
+effects-size-requires : tie.Need-effects-size-requires
+effects-size-requires c κs = search needs
+
 put-requires-3 : tie.Need-put-requires-3
 put-requires-3 c κs = search needs
 
@@ -28,7 +31,9 @@ same-length c = search needs
 
 returns : tie.Need-returns
 unfolding get-supported-logs
-returns c = bytes-written refl supported-length ((cc) ∙ supported-written _ (search needs))
+returns c =
+    let size = c .before .before .before .before in
+    bytes-written refl (supported-length _) ((cc) ∙ supported-written _ (size .effects-size .result) _ (size .effects-size .ensures) (search needs))
 
 pub get-supported-logs-spec : {M : Type 1} → statement M
 get-supported-logs-spec =
@@ -38,6 +43,7 @@ get-supported-logs-spec =
     put-requires-2
     slice-aggregate-copy
     copy-requires
+    effects-size-requires
     put-requires-3
     same-length
     returns)
