@@ -1,6 +1,7 @@
 /*
- * One guest's memory device in a hypervisor: the mailbox registers, the doorbell, the interrupts, the read path, the label area, the
- * Sanitize before it is handed on, and the incident that Kulduvost is there for, replayed. Exits with 1 if anything is not as expected.
+ * One guest's memory device in a hypervisor: the mailbox registers, the doorbell, the interrupts, the read path, the label area, the pool
+ * manager's own mailbox, the Sanitize before it is handed on, and the incident that Kulduvost is there for, replayed. Exits with 1 if
+ * anything is not as expected.
  *
  *   cc -std=c11 -I OUT/include examples/host.c OUT/lib/libkulduvost.a -o host        (OUT: where tests/library wrote)
  */
@@ -112,8 +113,8 @@ static void guest_wipe(struct guest *guest) {
     memset(guest->labels, 0, sizeof guest->labels);
 }
 
-/* The host's timer. A Sanitize ends at a call that carries a time, and a guest that only reads makes none: this is one, lent a buffer of its
- * own. */
+/* The host's timer. A Sanitize ends at a command of the guest's mailbox or a report, and a guest that only reads makes none: this is one,
+ * lent a buffer of its own. */
 static void guest_timer(struct guest *guest) {
     uint8_t none[1] = {0}, reply[KULDUVOST_MAILBOX_SIZE];
     kulduvost_command(&guest->device, KULDUVOST_GET_TIMESTAMP, none, 0, now(), guest->labels, sizeof guest->labels, reply, sizeof reply);
@@ -196,6 +197,13 @@ static size_t guest_empties_log(struct guest *guest, uint8_t log, uint8_t record
     return guest_sends(guest, KULDUVOST_CLEAR_EVENT_RECORDS, clear, 6 + 2 * count) == KULDUVOST_SUCCESS ? count : 0;
 }
 
+/* ---- The pool manager's side: a mailbox of its own to the same device (document 02, W-208), under the same lock. It has no pointer by
+ * which the device can be changed, and no label area; the buffer is its own. */
+static kulduvost_pool_answer pool_asks(const struct guest *guest, uint16_t opcode, const uint8_t *payload, size_t length,
+                                       uint8_t reply[KULDUVOST_MAILBOX_SIZE]) {
+    return kulduvost_pool_command(&guest->device, opcode, payload, length, now(), reply, KULDUVOST_MAILBOX_SIZE);
+}
+
 /* ---- The example */
 static bool all_as_expected = true;
 
@@ -256,11 +264,32 @@ static void label_written_and_read(struct guest *guest) {
     expect(guest_sends(guest, KULDUVOST_GET_LSA, get, sizeof get) == KULDUVOST_INVALID_INPUT, "a read past the label area's end is refused");
 }
 
+/* Between two commands of the guest the pool manager looks at its list and its log. */
+static void pool_manager_looks(struct guest *guest) {
+    static uint8_t before[sizeof *guest];
+    uint8_t records[KULDUVOST_EVENT_LOG_RECORDS][KULDUVOST_EVENT_RECORD_SIZE], reply[KULDUVOST_MAILBOX_SIZE], range[16];
+    const uint8_t log = KULDUVOST_LOG_INFO;
+    store64(range, 0);
+    store64(range + 8, KULDUVOST_UNIT_LINES);
+    expect(guest_injects(guest, address_of(21)) == KULDUVOST_SUCCESS, "the guest injects damage of line 21");
+    memcpy(before, guest, sizeof before);
+    kulduvost_pool_answer told = pool_asks(guest, KULDUVOST_GET_POISON_LIST, range, sizeof range, reply);
+    /* one record; the low bits of its address are the type */
+    expect(told.code == KULDUVOST_SUCCESS && told.length == 32 + 16 && load64(reply + 32) / KULDUVOST_LINE_SIZE == 21,
+           "the pool manager finds line 21 in the guest's list");
+    told = pool_asks(guest, KULDUVOST_GET_EVENT_RECORDS, &log, 1, reply);
+    expect(told.code == KULDUVOST_SUCCESS && load64(reply + 32 + 48) == address_of(21), "and its event in the guest's log Info");
+    expect(pool_asks(guest, KULDUVOST_CLEAR_POISON, range, 8, reply).code == KULDUVOST_UNSUPPORTED_MAILBOX, "it can clear nothing");
+    expect(memcmp(before, guest, sizeof before) == 0, "nothing of the guest's has changed: device, mailbox, labels, interrupts");
+    expect(guest_empties_log(guest, log, records) == 1 && guest_clears(guest, address_of(21), 0) == KULDUVOST_SUCCESS,
+           "the guest reads and clears the event, and clears the line");
+}
+
 /* A tenant leaves: nothing of its is left in memory, labels and logs, and until then no read is served. Damage stays: line 13 is as bad for
  * the next one. */
 static void guest_handed_on(struct guest *guest) {
     static const uint8_t event[KULDUVOST_EVENT_RECORD_SIZE];
-    uint8_t line[KULDUVOST_LINE_SIZE], labels[KULDUVOST_LABEL_AREA_SIZE] = {0};
+    uint8_t line[KULDUVOST_LINE_SIZE], labels[KULDUVOST_LABEL_AREA_SIZE] = {0}, reply[KULDUVOST_MAILBOX_SIZE];
     expect(guest_clears(guest, address_of(5), 0x77) == KULDUVOST_SUCCESS && guest_read(guest, address_of(5), line) && line[0] == 0x77,
            "the tenant has data in line 5");
     expect(guest_event(guest, KULDUVOST_LOG_INFO, event).stored, "and an event in log Info");
@@ -271,6 +300,8 @@ static void guest_handed_on(struct guest *guest) {
            "the read of line 5 blocks: Disabled");
     ahead += 4 * SECOND;
     expect(!guest_read(guest, address_of(5), line), "four seconds later it still blocks: a line test ends nothing");
+    expect(pool_asks(guest, KULDUVOST_GET_TIMESTAMP, line, 0, reply).code == KULDUVOST_SUCCESS && !guest_read(guest, address_of(5), line),
+           "nor does a command of the pool manager's");
     guest_timer(guest);
     expect(guest_read(guest, address_of(5), line) && line[0] == 0, "the host's timer has ended it: line 5 is served, and wiped");
     expect(kulduvost_event_status(&guest->device).waiting == 0, "no log holds an event");
@@ -303,6 +334,7 @@ int main(void) {
     one_line_damaged_and_cleared(guest);
     injection_and_its_interrupt(guest);
     label_written_and_read(guest);
+    pool_manager_looks(guest);
     guest_handed_on(guest);
     incident(guest);
     guest_free(guest);

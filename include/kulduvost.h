@@ -1,13 +1,13 @@
 /*
- * Kulduvost: a CXL Type 3 mailbox device (poison list, event logs, label storage, Sanitize, fifteen commands) behind a pointer. C11 and
- * C++11, x86-64 System V. Link with libkulduvost.a; `tests/library OUT` writes both. The rules are those of the project's documents 01
- * and 02 (the requests that have landed); their words stand below.
+ * Kulduvost: a CXL Type 3 mailbox device (poison list, event logs, label storage, Sanitize, fifteen commands, and a second mailbox for a
+ * pool manager with seven of them) behind a pointer. C11 and C++11, x86-64 System V. Link with libkulduvost.a; `tests/library OUT` writes
+ * both. The rules are those of the project's documents 01 and 02 (the requests that have landed); their words stand below.
  *
  * What the caller owes, and nothing checks:
  *  - A device lies in memory of KULDUVOST_DEVICE_SIZE bytes, aligned to KULDUVOST_DEVICE_ALIGN, that is all zero before kulduvost_make
  *    (calloc does). After kulduvost_make it is changed by these calls alone.
- *  - One call at a time on a device, those that only read it included. Different devices are independent: there is no global state, no
- *    lock and no allocation.
+ *  - One call at a time on a device, those that only read it included: a pool manager's thread takes turns with the guest's, by the
+ *    caller's lock. Different devices are independent: there is no global state, no lock and no allocation.
  *  - The device and what a call is lent (payload or record, label area, reply buffer) do not overlap, and nobody else uses them during the
  *    call.
  *  - The label area is the caller's, who keeps it and lends it with each command: KULDUVOST_LABEL_AREA_SIZE bytes, whatever they hold. The
@@ -29,17 +29,17 @@
  * Sanitize, before a guest is handed on (document 02, W-207):
  *  - KULDUVOST_SANITIZE disables media, from the time of that command on and for as long as is listed at the opcode. Its KULDUVOST_STARTED
  *    is no refusal: the device has changed.
- *  - It ends by the caller's times alone. The first later command, event report or media report whose time is at least that far past the
- *    beginning first ends it, before any of its own checks: all five logs are emptied with their overflow counts and times, next handles go
- *    on, and media is enabled. Nothing else changes: clock, interrupt policy and poison list stay, and a damaged line is damaged after it.
- *    Then the call is answered as on any device. A time before the beginning ends nothing, and an end past 2^64 - 1 never comes.
- *  - Line test, event status and damage total carry no time and end nothing. So lines are answered KULDUVOST_DISABLED, and no read may be
- *    served, until a call that carries a time has ended it, however late it is: a host that does not wait for its guest's next command
- *    makes one, such as a Get Timestamp.
+ *  - It ends by the caller's times alone. The first later kulduvost_command, event report or media report whose time is at least that far
+ *    past the beginning first ends it, before any of its own checks: all five logs are emptied with their overflow counts and times, next
+ *    handles go on, and media is enabled. Nothing else changes: clock, interrupt policy and poison list stay, and a damaged line is damaged
+ *    after it. Then the call is answered as on any device. A time before the beginning ends nothing, and an end past 2^64 - 1 never comes.
+ *  - Line test, event status and damage total carry no time and end nothing, nor does a pool command, whatever its time (document 02,
+ *    W-208). So lines are answered KULDUVOST_DISABLED, and no read may be served, until a kulduvost_command or a report has ended it,
+ *    however late it is: a host that does not wait for its guest's next command makes one, such as a Get Timestamp.
  *  - A log that is emptied, by this end or by a Clear, shows no record any more; the bytes of its records stay in the device's memory until
  *    others take their place. A host that hands that memory on, and not only the guest, makes a new device in it, zeroed first.
  *  - Until then another Sanitize is refused with KULDUVOST_BUSY, and Inject Poison, Clear Poison, Get LSA and Set LSA with
- *    KULDUVOST_MEDIA_DISABLED; everything else works as ever, Get Poison List and the reports too.
+ *    KULDUVOST_MEDIA_DISABLED; everything else works as ever, Get Poison List, the reports and every pool command too.
  *
  * `time` is the caller's clock in nanoseconds. It may stand still or go back; no answer about a line depends on it, but for when a Sanitize
  * ends.
@@ -91,36 +91,38 @@ enum kulduvost_code {
     KULDUVOST_INVALID_HANDLE = 0x000e,
     KULDUVOST_INVALID_PHYSICAL_ADDRESS = 0x000f,
     KULDUVOST_INJECT_POISON_LIMIT = 0x0010,
+    KULDUVOST_UNSUPPORTED_MAILBOX = 0x0015, /* of a pool command alone: the device has the opcode, that mailbox has not (W-208) */
     KULDUVOST_INVALID_PAYLOAD_LENGTH = 0x0016,
     KULDUVOST_INVALID_LOG = 0x0017,
     KULDUVOST_REPLY_BUFFER_TOO_SMALL = 0x0100 /* house: reply buffer under 2,048 bytes, or label area not 4,096 */
 };
 
-/* ---- Opcodes, each with its payload (field and bytes), the command's own refusals in their order, and its reply on Success */
+/* ---- Opcodes, each with its payload (field and bytes), the command's own refusals in their order, and its reply on Success. Those marked
+ * "Pool too" are the seven that kulduvost_pool_command has as well. */
 enum kulduvost_opcode {
-    /* log 1. Log above 4: 0002h. Reply: 32 bytes, then 128 for each record held, oldest first. */
+    /* Pool too. log 1. Log above 4: 0002h. Reply: 32 bytes, then 128 for each record held, oldest first. */
     KULDUVOST_GET_EVENT_RECORDS = 0x0100,
     /* log 1, flags 1, count n 1, reserved 3, n handles of 2. Length not 6 + 2n: 0016h; a flag bit 1 to 7 set or a reserved byte not zero:
      * 0002h; log above 4: 0002h; Clear All (flag bit 0) with n not 0 or overflow count 0: 0002h; without it, handle i not that of the
      * i-th oldest record: 000Eh. No reply. */
     KULDUVOST_CLEAR_EVENT_RECORDS = 0x0101,
-    /* No payload. Reply: a setting of 1 byte for each of the five logs. */
+    /* Pool too. No payload. Reply: a setting of 1 byte for each of the five logs. */
     KULDUVOST_GET_EVENT_INTERRUPT_POLICY = 0x0102,
     /* a byte for each of logs 0 to 3, or 0 to 4; its low two bits are the mode, 0 or 1, and its other bits are free. A mode of 2 or 3 in any
      * of them: 0002h, and no log's setting changes. The interrupts of a log are enabled where its mode is 1 and disabled where it is 0;
      * four bytes leave log 4 as it was. All start disabled. A log that is enabled while it holds records raises nothing for them: its
      * next vector comes when it has been emptied and a record is stored. No reply. */
     KULDUVOST_SET_EVENT_INTERRUPT_POLICY = 0x0103,
-    /* No payload. Reply: the device time, 8. */
+    /* Pool too. No payload. Reply: the device time, 8. */
     KULDUVOST_GET_TIMESTAMP = 0x0300,
     /* device time 8. No reply. */
     KULDUVOST_SET_TIMESTAMP = 0x0301,
-    /* No payload. Reply: 28 bytes that name the Command Effects Log. */
+    /* Pool too. No payload. Reply: 28 bytes that name the Command Effects Log, with its size. */
     KULDUVOST_GET_SUPPORTED_LOGS = 0x0400,
-    /* identifier 16, offset 4, length 4. Other identifier: 0017h; length over 2,048, or offset plus length over the log's 60 bytes:
-     * 0002h. Reply: those bytes of the Command Effects Log. */
+    /* Pool too. identifier 16, offset 4, length 4. Other identifier: 0017h; length over 2,048, or offset plus length over the log's 60
+     * bytes, 28 for a pool command: 0002h. Reply: those bytes of the Command Effects Log. */
     KULDUVOST_GET_LOG = 0x0401,
-    /* No payload. Reply: 69 bytes. */
+    /* Pool too. No payload. Reply: 69 bytes. */
     KULDUVOST_IDENTIFY = 0x4000,
     /* offset 4, length 4. Media disabled: 0007h; length over 2,048, or offset plus length over 4,096: 0002h. Reply: those bytes of the
      * label area. */
@@ -131,7 +133,8 @@ enum kulduvost_opcode {
      * After a Set, where all are accepted and nobody writes the area between, a Get of the same range gives the data back, and a Get of a
      * range apart from it gives what it gave just before the Set. */
     KULDUVOST_SET_LSA = 0x4103,
-    /* address 8, lines 8. Unaligned: 0002h; end past the device: 000Fh. Reply: 32 bytes, then 16 for each of up to 126 records. */
+    /* Pool too. address 8, lines 8. Unaligned: 0002h; end past the device: 000Fh. Reply: 32 bytes, then 16 for each of up to 126
+     * records. */
     KULDUVOST_GET_POISON_LIST = 0x4300,
     /* address 8. Media disabled: 0007h; unaligned: 0002h; outside: 000Fh; line not covered and 256 entries held: 0010h. No reply. An
      * injection that adds an entry also reports an event to log 0: 128 zero bytes with length 128 at byte 16 and the address at bytes 48 to
@@ -191,6 +194,11 @@ typedef struct kulduvost_command_answer {
     size_t length;  /* bytes of the reply; 0 where refused or started */
 } kulduvost_command_answer;
 
+typedef struct kulduvost_pool_answer {
+    uint16_t code;
+    size_t length; /* bytes of the reply; 0 where refused */
+} kulduvost_pool_answer;
+
 typedef struct kulduvost_event_answer {
     uint16_t code;
     bool stored;    /* false where refused */
@@ -234,6 +242,19 @@ kulduvost_command_answer kulduvost_command(kulduvost_device *device, uint16_t op
                                            uint64_t time, uint8_t *area, size_t area_size, uint8_t *reply, size_t reply_room);
 
 /*
+ * A command of the second mailbox, the pool manager's, which looks at the same logs and list (document 02, W-208). It is lent no label area,
+ * changes nothing of the device, ends no Sanitize, also not a due one, and raises no vector: any number of them, at whatever times, put
+ * between the other calls, alter no answer of those. It has the seven commands marked "Pool too". Answer and reply are those that
+ * kulduvost_command would give on the device as it stands, a due Sanitize not ended first, save that the Command Effects Log lists those
+ * seven alone: 28 bytes, and Get Supported Logs gives that size. On Success of length n the first n bytes of the reply buffer are written,
+ * the others stay. Refused: reply room under 2,048 bytes, 0100h; payload over 2,048 bytes, 0016h; opcode not one of the fifteen, 0003h; one
+ * of the fifteen and not of the seven, 0015h, whatever its payload; payload length not the command's, 0016h; then the command's own checks,
+ * as listed at its opcode.
+ */
+kulduvost_pool_answer kulduvost_pool_command(const kulduvost_device *device, uint16_t opcode, const uint8_t *payload,
+                                             size_t payload_length, uint64_t time, uint8_t *reply, size_t reply_room);
+
+/*
  * Event report, a due Sanitize ended first. Below eight held, the record is stored last in the log, with bytes 20 and 21 set to the log's
  * next handle and bytes 24 to 31 to the device time. With eight held nothing is stored: the overflow count grows, staying at 65,535, and
  * Success answers not stored. The vector to raise is the log's if its interrupts are enabled and the log was empty before, otherwise none.
@@ -275,6 +296,9 @@ KULDUVOST_ASSERT(sizeof(kulduvost_command_answer) == 16);
 KULDUVOST_ASSERT(offsetof(kulduvost_command_answer, code) == 0);
 KULDUVOST_ASSERT(offsetof(kulduvost_command_answer, vector) == 2);
 KULDUVOST_ASSERT(offsetof(kulduvost_command_answer, length) == 8);
+KULDUVOST_ASSERT(sizeof(kulduvost_pool_answer) == 16);
+KULDUVOST_ASSERT(offsetof(kulduvost_pool_answer, code) == 0);
+KULDUVOST_ASSERT(offsetof(kulduvost_pool_answer, length) == 8);
 KULDUVOST_ASSERT(sizeof(kulduvost_event_answer) == 4);
 KULDUVOST_ASSERT(offsetof(kulduvost_event_answer, code) == 0);
 KULDUVOST_ASSERT(offsetof(kulduvost_event_answer, stored) == 2);

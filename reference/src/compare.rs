@@ -2,7 +2,7 @@
 //! line by line.
 
 use crate::case::words::{hex_text, line_words};
-use crate::device::fault::{of_host, FaultLine};
+use crate::device::fault::{of_host, of_pool, FaultLine};
 use crate::device::Config;
 use crate::format::Format;
 use crate::generate::{profile_named, profile_of, Profile};
@@ -154,7 +154,7 @@ fn place_words(seed: u64, profile: &Profile, part: usize) -> String {
 
 /// For each fault the first stream of the plan whose lines differ with it, if
 /// there is one. A stream is made once for all faults not yet found, and a fault of the
-/// host's side is not tried where no record of that side is.
+/// host's side or of the pool manager's mailbox is not tried where no record of it is.
 pub fn find_faults(plan: &Plan, faults: &[&FaultLine]) -> Vec<Option<String>> {
     let mut found = vec![None; faults.len()];
     for (seed, profile, part) in streams(plan) {
@@ -163,9 +163,9 @@ pub fn find_faults(plan: &Plan, faults: &[&FaultLine]) -> Vec<Option<String>> {
         }
         let stream = plan.stream(seed, profile, part);
         let expected = plan.format.lines_of(&stream, Config::default());
-        let host = has_host_record(&expected);
+        let (host, pool) = (answers(&expected, is_host), answers(&expected, is_pool));
         for (line, found) in faults.iter().zip(&mut found) {
-            if of_host(line.fault) && !host {
+            if (of_host(line.fault) && !host) || (of_pool(line.fault) && !pool) {
                 continue;
             }
             let faulty = Config {
@@ -187,20 +187,35 @@ fn is_host(bytes: &[u8]) -> bool {
     HOST_MARKS.iter().any(|mark| bytes.starts_with(mark))
 }
 
-/// Whether one of the lines answers a record of the host's side.
-fn has_host_record(lines: &[u8]) -> bool {
-    lines.split(|byte| *byte == b'\n').any(is_host)
+/// Whether a record or a line begins with the mark of the pool manager's mailbox (W-208).
+fn is_pool(bytes: &[u8]) -> bool {
+    bytes.starts_with(b"PC")
+}
+
+/// Whether one of the lines is of this kind.
+fn answers(lines: &[u8], kind: fn(&[u8]) -> bool) -> bool {
+    lines.split(|byte| *byte == b'\n').any(kind)
 }
 
 /// A stream without its records of the host's side, which change no device. A bad
 /// record stays: it is bad for a program that does not know its mark too.
 pub fn without_host(format: Format, stream: &[u8]) -> Vec<u8> {
+    without(format, stream, is_host)
+}
+
+/// A stream without the commands of the pool manager's mailbox, which "alter no answer of
+/// those" of the first one (W-208).
+pub fn without_pool(format: Format, stream: &[u8]) -> Vec<u8> {
+    without(format, stream, is_pool)
+}
+
+fn without(format: Format, stream: &[u8], left_out: fn(&[u8]) -> bool) -> Vec<u8> {
     let records = format.records(stream);
     let begins = records.iter().map(|(offset, _)| *offset as usize);
     let ends = begins.clone().skip(1).chain([stream.len()]);
     let mut kept = Vec::new();
     for ((begin, end), (_, record)) in begins.zip(ends).zip(&records) {
-        if record.is_none() || !is_host(&stream[begin..end]) {
+        if record.is_none() || !left_out(&stream[begin..end]) {
             kept.extend(&stream[begin..end]);
         }
     }
@@ -253,7 +268,7 @@ fn reply_byte(expected: &str, came: &str) -> String {
         if let Some(bytes) = line.strip_prefix("AB ") {
             return Some(bytes.to_string());
         }
-        let marks = ["CM ", "RQ ", "RW ", "WK "];
+        let marks = ["CM ", "PC ", "RQ ", "RW ", "WK "];
         let columns = marks.iter().find_map(|mark| line.strip_prefix(mark))?;
         columns.split(' ').nth(2).map(str::to_string)
     };

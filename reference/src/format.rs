@@ -1,6 +1,6 @@
 //! The two program formats: document 01's `bench` and document 10's `probe`.
 
-use crate::device::fault::{sanitize, FaultLine, FAULTS, HOST_FAULTS, PROBE_FAULTS};
+use crate::device::fault::{pool, sanitize, FaultLine, FAULTS, HOST_FAULTS, PROBE_FAULTS};
 use crate::device::Config;
 use crate::{bench, probe};
 use std::io::{self, BufRead, Write};
@@ -45,11 +45,12 @@ impl Format {
 
     /// The planted faults that this format can see.
     pub fn faults(self) -> Vec<&'static FaultLine> {
-        let both = FAULTS.iter().chain(sanitize::FAULTS);
+        let both = FAULTS.iter().chain(sanitize::FAULTS).chain(pool::FAULTS);
         match self {
             Format::Bench => both.collect(),
             Format::Probe => {
                 let device = both.chain(PROBE_FAULTS).chain(sanitize::PROBE_FAULTS);
+                let device = device.chain(pool::PROBE_FAULTS);
                 let host = sanitize::HOST_FAULTS.iter().chain(HOST_FAULTS);
                 device.chain(host).collect()
             }

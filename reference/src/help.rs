@@ -36,7 +36,7 @@ Reads bench records from standard input and prints a line for each, as document
 reference probe [--fault NAME] < STREAM
 
 Reads probe records from standard input and prints a line for each, as document
-10 says for the records of the base and those of W-202 and W-206, with the vector
+10 says for the records of the base and those of W-202, W-206 and W-208, with the vector
 column of W-204. Exit status 0, after BAD too.
 
   --fault NAME  with a planted fault of `reference faults --format probe`
@@ -55,7 +55,7 @@ Writes the stream of a seed. The seed chooses the profile unless one is named.
   --stream K    stream number K, from 0, of a profile with several streams a seed
   --records N   N records where the profile is a loop, at most N elsewhere; a bad
                 rest of the stream is not counted, nor is what a probe stream has
-                between: ES, DT, AR, AB and commands refused for what they are lent
+                between: ES, DT, AR, AB, PC and commands refused for what they are lent
 ",
     ),
     (
@@ -130,7 +130,7 @@ faults that the seeds find and M those that they do not.
 
   --program PATH     a path, or a path and arguments with blanks between them
   --format F         bench (so if not given) or probe
-  --seeds A..B       the seeds from A to B - 1 (0..444), or one seed: --seeds A
+  --seeds A..B       the seeds from A to B - 1 (0..458), or one seed: --seeds A
   --profile P        this profile for all seeds, not the one that a seed chooses
   --without-host     takes the records of the host's side (RQ, RP, RW, WK) out of the
                      streams, for a program over the device's library alone

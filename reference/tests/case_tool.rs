@@ -9,7 +9,7 @@ use reference::device::Config;
 use reference::format::Format;
 use reference::generate::profiles;
 use reference::host::request::Request;
-use reference::probe::record::Record;
+use reference::probe::record::{Call, Record};
 use std::io::Write;
 use std::process::{Command, Stdio};
 
@@ -67,6 +67,7 @@ fn errors_name_file_line_and_what_was_expected() {
         ("command identify room=2048", "case.txt:1: expected no `room=` here"),
         ("command identify fill=00", "case.txt:1: expected no `fill=` here"),
         ("status", "case.txt:1: expected new, command, event, media, line, bytes, repeat or end, not `status`"),
+        ("pool identify", "case.txt:1: expected new, command, event, media, line, bytes, repeat or end, not `pool`"),
         ("program", "case.txt:1: expected `program bench` or `program probe`"),
         ("program other", "case.txt:1: expected `program bench` or `program probe`"),
         ("program probe => bad", "case.txt:1: expected `program bench` or `program probe`"),
@@ -77,11 +78,16 @@ fn errors_name_file_line_and_what_was_expected() {
         assert_eq!(error(text), expected);
     }
     for (text, expected) in [
-        ("news 1 0", "expected new, command, event, media, line, status, total, label-area, label-bytes, request, reply, write-again, walk, bytes, repeat or end, not `news`"),
+        ("news 1 0", "expected new, command, event, media, line, status, total, label-area, label-bytes, pool, request, reply, write-again, walk, bytes, repeat or end, not `news`"),
         ("command identify room=4097", "expected room= from 0 to 4096, not `4097`"),
         ("command identify fill=1", "expected fill= as one byte of two hex digits, not `1`"),
         ("command identify raw=00*4097", "expected a payload of at most 4096 bytes (see `bytes`)"),
         ("command identify length=0", "expected no `length=` here"),
+        ("pool time=0", "expected one command name or opcode="),
+        ("pool identify room=4097", "expected room= from 0 to 4096, not `4097`"),
+        ("pool identify raw=00*4097", "expected a payload of at most 4096 bytes (see `bytes`)"),
+        ("pool inject-poison", "expected address=NUMBER"),
+        ("pool identify length-field=65536", "expected length-field= once, from 0 to 65535"),
         ("event log=0", "expected bytes=HEX of at most 4096 bytes or fill=HH"),
         ("event log=0 bytes=00*4097", "expected an event record of at most 4096 bytes, not 4097"),
         ("event log=0 bytes=00 length=1", "expected no `length=` here"),
@@ -138,6 +144,7 @@ fn a_length_field_is_put_whatever_follows() {
     let command = bytes(Format::Probe, "command get-timestamp length-field=0x1001");
     assert_eq!((&command[15..], command.len()), (&[0x01, 0x10][..], 17));
     for (words, at) in [
+        ("pool get-timestamp", 15),
         ("request clear-event-records log=1 flags=2", 9),
         ("reply get-timestamp", 8),
         ("write-again get-timestamp", 11),
@@ -267,12 +274,20 @@ fn a_generated_stream_has_words_that_encode_to_it() {
 
 /// A command record of probe.
 fn command(opcode: u16, room: u16, fill: u8, payload: &[u8]) -> Record {
-    Record::Command {
+    Record::Command(Call {
         time: 7,
         opcode,
         room,
         fill,
         payload: payload.to_vec(),
+    })
+}
+
+/// The same command through the pool manager's mailbox.
+fn pool(opcode: u16, room: u16, fill: u8, payload: &[u8]) -> Record {
+    match command(opcode, room, fill, payload) {
+        Record::Command(call) => Record::Pool(call),
+        _ => unreachable!("a command is a command record"),
     }
 }
 
@@ -323,6 +338,22 @@ fn every_probe_record_has_words_that_encode_to_it() {
         (
             command(0x0401, 1, 0, &effects),
             "command time=7 room=1 fill=00 get-log id=effects offset=0 length=0",
+        ),
+        (
+            pool(0x0401, 1, 0, &effects),
+            "pool time=7 room=1 fill=00 get-log id=effects offset=0 length=0",
+        ),
+        (
+            pool(0x4000, 0, 0xaa, &[]),
+            "pool time=7 room=0 fill=aa identify",
+        ),
+        (
+            pool(0x4000, 4096, 0, &[0; 4096]),
+            "pool time=7 room=4096 fill=00 identify raw=00*4096",
+        ),
+        (
+            pool(0xffff, 2048, 1, &[1, 2]),
+            "pool time=7 room=2048 fill=01 opcode=0xffff payload=0102",
         ),
         (
             command(0x0401, 2048, 0, &[1]),
@@ -717,6 +748,33 @@ fn answers_about_sanitize_are_stated() {
 }
 
 #[test]
+fn answers_of_the_pools_mailbox_are_stated() {
+    let lines = "program probe\n\
+        new 1 0\n\
+        event log=2 fill=00\n\
+        pool fill=11 get-event-records log=2 => success length=160 count=1 handles=1 kept=1\n\
+        pool get-supported-logs => size=28 count=1\n\
+        pool get-log offset=0 length=8 => entries=0100h:0,0102h:0\n\
+        pool get-log offset=0 length=29 => invalid-input length=0\n\
+        pool identify => label-size=4096 total=1\n\
+        pool inject-poison address=0 => unsupported-mailbox code=21 reply=- kept=1\n\
+        pool opcode=0x0104 => unsupported\n";
+    let case = read(lines);
+    let stream = case.stream();
+    let output = String::from_utf8(reference::probe::lines_of(&stream, Config::default())).unwrap();
+    let report = check(&case, &output);
+    assert_eq!((report.passed, report.failed), (7, 0), "{:?}", report.lines);
+    let wrong = read(&lines.replace("size=28", "size=60"));
+    assert_eq!(check(&wrong, &output).failed, 1);
+    let wrong = read(&lines.replace("=> unsupported\n", "=> unsupported-mailbox\n"));
+    assert_eq!(check(&wrong, &output).failed, 1);
+    // "`PC` has no vector column."
+    let message = error("program probe\npool identify => vector=none");
+    assert!(message.starts_with("case.txt:2: expected after `=>` one of "));
+    assert!(message.ends_with("not `vector=none`"));
+}
+
+#[test]
 fn explanations_decode_replies() {
     let text = "new 1 0\n\
         command time=0 set-timestamp value=5\n\
@@ -782,6 +840,13 @@ fn explanations_of_probe_lines() {
         ("command room=0 identify", "CM 256 0 - 1 0", "refused: reply buffer too small (0100h): length 0, the buffer is empty"),
         ("command set-timestamp value=1", "CM 0 0 - 1 0", "success: set-timestamp, no reply, all 2,048 bytes of the buffer still 0x00"),
         ("command opcode=1", "CM 3 0 - 1 0", "refused: unsupported (0003h): length 0, all 2,048 bytes of the buffer still 0x00"),
+        ("pool fill=aa identify", "PC 0 2 4257 1", "success: identify, reply of 2 bytes, the other 2,046 bytes of the buffer still 0xaa"),
+        ("pool fill=aa identify", "PC 0 2 4257 0", "success: identify, reply of 2 bytes, NOT KEPT: the other 2,046 bytes of the buffer are no longer all 0xaa"),
+        ("pool fill=aa sanitize", "PC 21 0 - 1", "refused: unsupported mailbox (0015h): length 0, all 2,048 bytes of the buffer still 0xaa"),
+        ("pool room=0 set-timestamp value=1", "PC 0 0 - 1", "success: set-timestamp, no reply, the buffer is empty; BUT THIS MAILBOX HAS NOT THE COMMAND"),
+        ("pool room=0 sanitize", "PC 1 0 - 1", "started (0001h): sanitize, no reply, the buffer is empty; BUT THIS MAILBOX HAS NOT THE COMMAND"),
+        ("pool identify", "PC 0 2 4257 1 0", "not a line of this record: PC 0 2 4257 1 0"),
+        ("pool identify", "CM 3 0 - 1 0", "not a line of this record: CM 3 0 - 1 0"),
         ("new 0 0", "NW 2", "refused: invalid input (0002h); the device beside it has one volatile unit"),
         ("new 1 0", "NW 0", "success: the device is made"),
         ("event log=0 fill=00", "EV 0 1 0", "success: the event record is stored; no vector"),
@@ -932,7 +997,7 @@ fn an_error_is_printed_once_by_each_subcommand() {
     let name = path.to_str().unwrap();
     let wrong = [
         ("repeat 3\ncommand identify room=x\nend\n", "expected room= from 0 to 4096, not `x`"),
-        ("\nlines 3\n", "expected new, command, event, media, line, status, total, label-area, label-bytes, request, reply, write-again, walk, bytes, repeat or end, not `lines`"),
+        ("\nlines 3\n", "expected new, command, event, media, line, status, total, label-area, label-bytes, pool, request, reply, write-again, walk, bytes, repeat or end, not `lines`"),
     ];
     for (text, message) in wrong {
         std::fs::write(&path, format!("program probe\n{text}")).unwrap();

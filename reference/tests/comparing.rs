@@ -12,7 +12,7 @@ use reference::device::{Config, Device};
 use reference::format::Format::{self, Bench, Probe};
 use reference::generate::builder::clear_payload;
 use reference::generate::{profile_named, profile_of, profiles, DEFAULT_SEEDS};
-use reference::probe::record::Record;
+use reference::probe::record::{Call, Record};
 use std::process::Command;
 use std::time::Duration;
 
@@ -77,8 +77,8 @@ fn profiles_say_how_many_streams_they_have() {
     }
 }
 
-/// At least as many seeds for each as there were before W-205, W-206 and W-207 brought their
-/// profiles: 10 or 11 of bench, 7 or 8 of probe.
+/// At least as many seeds for each as there were before W-205 to W-208 brought their profiles:
+/// 10 or 11 of bench, 7 or 8 of probe.
 #[test]
 fn every_profile_has_its_seeds() {
     for (format, least) in [(Bench, 10), (Probe, 7)] {
@@ -263,19 +263,19 @@ fn drains(format: Format, name: &str) -> Vec<Drain> {
             let code = answer.number("code").unwrap_or(0);
             match record.as_ref().unwrap() {
                 Record::Event { .. } => reports += 1,
-                Record::Command {
+                Record::Command(Call {
                     opcode: opcode::GET_EVENT_RECORDS,
                     payload,
                     ..
-                } if code == 0 => {
+                }) if code == 0 => {
                     (log, handles_read, reports) = (payload[0], handles(line), 0);
                     flags = answer.number("flags").unwrap();
                 }
-                Record::Command {
+                Record::Command(Call {
                     opcode: opcode::CLEAR_EVENT_RECORDS,
                     payload,
                     ..
-                } if *payload == clear_payload(log, 0, &handles_read) => found.push(Drain {
+                }) if *payload == clear_payload(log, 0, &handles_read) => found.push(Drain {
                     log,
                     handles: handles_read.clone(),
                     flags,
@@ -329,9 +329,9 @@ fn malformed_probe_streams_end_bad() {
         text.lines().last().unwrap_or_default().starts_with("BAD ")
     };
     // All but the empty input and the cuts before a record's first byte: of NW,
-    // two CM, EV, MD, LT, ES, DT, five RQ, RP, RW, WK, AR, AB and a later NW.
+    // two CM, EV, MD, LT, ES, DT, five RQ, RP, RW, WK, AR, AB, PC and a later NW.
     let bad = (0..malformed.streams()).filter(bad).count();
-    assert_eq!(bad, malformed.streams() - 1 - 19);
+    assert_eq!(bad, malformed.streams() - 1 - 20);
 }
 
 #[test]
@@ -453,7 +453,7 @@ fn situations(format: Format) -> std::collections::BTreeMap<String, usize> {
         let mut injected = false;
         each_step(format, profile, seed, |record, before, after| {
             let vector = match record {
-                Record::Event { .. } | Record::Command { .. } => last_column(after.line.as_bytes()),
+                Record::Event { .. } | Record::Command(_) => last_column(after.line.as_bytes()),
                 _ => 0,
             };
             let mut count = |what: String| *found.entry(what).or_insert(0) += 1;
@@ -464,11 +464,11 @@ fn situations(format: Format) -> std::collections::BTreeMap<String, usize> {
                     count(format!("report, log {log} {}, vector {vector}", state(log)));
                 }
                 Record::Event { .. } => count(format!("report refused, vector {vector}")),
-                Record::Command {
+                Record::Command(Call {
                     opcode: opcode::INJECT_POISON,
                     payload,
                     ..
-                } => {
+                }) => {
                     let line = String::from_utf8_lossy(after.line.as_bytes()).to_string();
                     let code = line.split(' ').nth(1).unwrap();
                     let entries = before.poison_list().held();
@@ -495,11 +495,11 @@ fn situations(format: Format) -> std::collections::BTreeMap<String, usize> {
                     injected = true;
                     return;
                 }
-                Record::Command {
+                Record::Command(Call {
                     opcode: opcode::GET_EVENT_RECORDS,
                     payload,
                     ..
-                } if injected && payload == &[0] => count("inject, then read".to_string()),
+                }) if injected && payload == &[0] => count("inject, then read".to_string()),
                 _ => {}
             }
             injected = false;

@@ -9,7 +9,7 @@ use reference::device::numbers::{number, opcode, Refusal, LABEL_AREA};
 use reference::device::{Answered, Config, Device, Done, LineAnswer};
 use reference::format::Format;
 use reference::generate::profile_named;
-use reference::probe::record::Record;
+use reference::probe::record::{Call, Record};
 
 /// Document 01 "vectors 2, 3, 4, 5 for logs 0 to 3", W-204 "log 4 uses vector 2".
 const VECTORS: [u8; 5] = [2, 3, 4, 5, 2];
@@ -348,7 +348,7 @@ fn it_holds_after_generated_calls() {
             let line = String::from_utf8(program.line.as_bytes().to_vec()).unwrap();
             let after = program.device();
             let last: u8 = match record {
-                Record::Command { .. } | Record::Event { .. } => {
+                Record::Command(_) | Record::Event { .. } => {
                     line.trim_end().rsplit(' ').next().unwrap().parse().unwrap()
                 }
                 _ => return,
@@ -356,12 +356,12 @@ fn it_holds_after_generated_calls() {
             let expected = expected_vector(before, after);
             assert_eq!(last, expected.unwrap_or(0), "{name}: {record:?}");
             vectors += usize::from(last != 0);
-            if let Record::Command {
+            if let Record::Command(Call {
                 opcode: opcode::INJECT_POISON,
                 payload,
                 time,
                 ..
-            } = record
+            }) = record
             {
                 let added = after.poison_list().held() > before.poison_list().held();
                 injections += usize::from(added);

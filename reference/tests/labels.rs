@@ -9,7 +9,7 @@ use reference::device::{Answered, Config, Device};
 use reference::format::Format::{self, Bench, Probe};
 use reference::generate::{profile_named, profile_of, DEFAULT_SEEDS};
 use reference::probe::lines_of;
-use reference::probe::record::Record;
+use reference::probe::record::{Call, Record};
 use std::collections::BTreeMap;
 
 const GET: u16 = 0x4102;
@@ -582,7 +582,7 @@ fn it_holds_after_generated_calls() {
             let columns: Vec<&str> = line.trim_end().split(' ').collect();
             let lent = after.labels().lent().len();
             let disabled = before.media_disabled();
-            if matches!(record, Record::Command { .. }) && lent != SIZE {
+            if matches!(record, Record::Command(_)) && lent != SIZE {
                 assert_eq!(line, "CM 256 0 - 1 0\n", "{name}: {record:?}");
                 assert_eq!(after.device(), before);
                 areas += 1;
@@ -661,12 +661,12 @@ fn situations(format: Format) -> BTreeMap<String, usize> {
             let mut count = |what: String| *found.entry(what).or_insert(0) += 1;
             let lent = after.labels().lent().len();
             match record {
-                Record::Command {
+                Record::Command(Call {
                     opcode,
                     room,
                     payload,
                     ..
-                } if lent != SIZE => {
+                }) if lent != SIZE => {
                     let answer = before.clone().answer(*opcode, payload, 0);
                     let what = match number_of(&answer) {
                         _ if *room < 2048 => "small room".to_string(),

@@ -142,7 +142,7 @@ fn a_cut_record_is_bad_at_its_mark() {
 
 #[test]
 fn an_unknown_mark_is_bad_and_stops() {
-    let marks = "PC TT UM DB EL LP NX HS NZ ar ab nw cm ev md lt es dt XX BA";
+    let marks = "TT UM DB EL LP NX HS NZ ar ab pc nw cm ev md lt es dt XX BA";
     for mark in marks.split(' ') {
         let parts = [mark.as_bytes().to_vec(), vec![0; 40], es()];
         assert_eq!(after_new(&parts), "BAD 6\n", "{mark}");

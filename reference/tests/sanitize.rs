@@ -3,7 +3,7 @@
 
 mod common;
 
-use common::{cm, each_record, found, rightly_lent, time_of};
+use common::{busy, busy_and_full, cm, each_record, found, rightly_lent, time_of};
 use reference::bench;
 use reference::device::events::EventLog;
 use reference::device::numbers::{number, opcode, Refusal, LABEL_AREA};
@@ -12,7 +12,7 @@ use reference::format::Format::{self, Bench, Probe};
 use reference::generate::{profile_named, profile_of, DEFAULT_SEEDS};
 use reference::host::walk::walk;
 use reference::probe::lines_of;
-use reference::probe::record::Record;
+use reference::probe::record::{Call, Record};
 use std::collections::BTreeMap;
 
 const SANITIZE: u16 = 0x4400;
@@ -106,36 +106,6 @@ fn logs(device: &Device) -> Vec<Vec<u8>> {
 
 fn next_handles(device: &Device) -> Vec<u16> {
     (0..5).map(|log| device.log(log).next_handle()).collect()
-}
-
-/// A device with something in every place: a clock, a policy, an entry of each kind, records in
-/// every log, two of them overflown at device times that are not 0.
-fn busy() -> Device {
-    let mut device = make(1, 0);
-    let at = |value: u64| value.to_le_bytes();
-    device.answer(opcode::SET_TIMESTAMP, &at(777), 0).unwrap();
-    device.answer(opcode::SET_POLICY, &[1; 5], 0).unwrap();
-    device.media_report(128, 3, 1, 0).unwrap();
-    device.media_report(0, 1, 7, 0).unwrap();
-    for log in 0..5u8 {
-        for _ in 0..[9, 1, 8, 12, 3][usize::from(log)] {
-            device.event_report(log, &[0x5a; 128], 5).unwrap();
-        }
-    }
-    device
-}
-
-/// The list of `busy` at 256 entries with a line dropped.
-fn busy_and_full() -> Device {
-    let mut device = busy();
-    for line in 0..254 {
-        device
-            .media_report((1000 + 2 * line) * 64, 1, 0, 0)
-            .unwrap();
-    }
-    assert_eq!(device.poison_list().held(), 256);
-    assert_eq!(device.media_report(3000 * 64, 1, 0, 9), Ok((0, 1)));
-    device
 }
 
 /// What an ending leaves: "all five logs are emptied with their overflow counts and times,
@@ -1027,7 +997,7 @@ fn it_holds_after_generated_calls() {
                 assert!([one.next_handle(), next].contains(&other.next_handle()));
                 let clears = matches!(
                     record,
-                    Record::Command { opcode: opcode::CLEAR_EVENT_RECORDS, payload, .. }
+                    Record::Command(Call { opcode: opcode::CLEAR_EVENT_RECORDS, payload, .. })
                         if payload[0] == log as u8 && columns[0] == 0
                 );
                 let held = |log: &EventLog| log.handles().len();
@@ -1159,12 +1129,13 @@ fn situations(format: Format) -> BTreeMap<String, usize> {
                         count(format!("media while disabled, {name}"));
                     }
                 }
-                let Record::Command { opcode: code, .. } = record else {
+                let Record::Command(Call { opcode: code, .. }) = record else {
                     return;
                 };
                 let Some((code, payload)) = rightly_lent(record, after) else {
                     if ends {
-                        let room = matches!(record, Record::Command { room, .. } if *room < 2048);
+                        let room =
+                            matches!(record, Record::Command(Call { room, .. }) if *room < 2048);
                         count(format!("ended with 0100h, small room {room}"));
                     }
                     return count(format!("{code:04x} wrongly lent, ends {ends}"));

@@ -50,6 +50,8 @@ static void calls(kulduvost_device *device) {
     expect(done.code == KULDUVOST_SUCCESS && done.vector == KULDUVOST_VECTOR_NONE && done.length == 69 &&
                memcmp(bytes, "BWFW VERSION 0", 15) == 0,
            "command");
+    kulduvost_pool_answer pool = kulduvost_pool_command(device, KULDUVOST_GET_TIMESTAMP, record, 0, 0, bytes, sizeof bytes);
+    expect(pool.code == KULDUVOST_SUCCESS && pool.length == 8 && memcmp(bytes, record, 8) == 0, "pool command");
     kulduvost_event_answer event = kulduvost_event_report(device, 0, KULDUVOST_LOG_FATAL, record, sizeof record);
     expect(event.code == KULDUVOST_SUCCESS && event.stored && event.vector == KULDUVOST_VECTOR_NONE, "event report");
     kulduvost_media_answer media = kulduvost_media_report(device, 0, 5 * KULDUVOST_LINE_SIZE, 3, 2);
@@ -102,8 +104,9 @@ static void mailbox(kulduvost_device *device) {
 }
 
 /* The Command Effects Log: 60 bytes, of which the last four are those of Sanitize (document 02, W-207). */
+#define EFFECTS 0x0d, 0xa9, 0xc0, 0xb5, 0xbf, 0x41, 0x4b, 0x78, 0x8f, 0x79, 0x96, 0xb1, 0x62, 0x3b, 0x3f, 0x17
 static void effects_log(kulduvost_device *device) {
-    uint8_t whole[24] = {0x0d, 0xa9, 0xc0, 0xb5, 0xbf, 0x41, 0x4b, 0x78, 0x8f, 0x79, 0x96, 0xb1, 0x62, 0x3b, 0x3f, 0x17, 0, 0, 0, 0, 60};
+    uint8_t whole[24] = {EFFECTS, 0, 0, 0, 0, 60};
     static const uint8_t last[4] = {KULDUVOST_SANITIZE & 255, KULDUVOST_SANITIZE >> 8, 0x64, 0};
     made(device, 1, 0);
     kulduvost_command_answer done = command(device, KULDUVOST_GET_LOG, whole, sizeof whole);
@@ -437,6 +440,150 @@ static void durations(kulduvost_device *device) {
     }
 }
 
+/* ---- The second mailbox (document 02, W-208) */
+static bool pool_left_all = true; /* what a pool command has to leave, of all made here */
+
+/* By a pointer through which the device cannot be changed. Whatever the answer, every byte of the device stays, and every byte of the
+ * buffer after the reply; a refusal has no reply. */
+static kulduvost_pool_answer pool_lent(const kulduvost_device *device, uint64_t time, uint16_t opcode, const uint8_t *payload,
+                                       size_t length, size_t room) {
+    static uint8_t before[sizeof reply];
+    const kulduvost_device stays = *device;
+    memset(before, 0x5a, sizeof before);
+    memcpy(reply, before, sizeof reply);
+    kulduvost_pool_answer done = kulduvost_pool_command(device, opcode, payload, length, time, reply, room);
+    pool_left_all = pool_left_all && memcmp(device, &stays, sizeof stays) == 0 && done.length <= sizeof reply &&
+                    memcmp(reply + done.length, before, sizeof reply - done.length) == 0 &&
+                    (done.code == KULDUVOST_SUCCESS || done.length == 0);
+    return done;
+}
+
+static kulduvost_pool_answer pool_at(const kulduvost_device *device, uint64_t time, uint16_t opcode, const uint8_t *payload,
+                                     size_t length) {
+    return pool_lent(device, time, opcode, payload, length, sizeof reply);
+}
+
+static bool pool_refuses(const kulduvost_device *device, uint16_t opcode, const uint8_t *payload, size_t length, uint16_t code) {
+    return pool_at(device, due, opcode, payload, length).code == code;
+}
+
+/* The seven, each with a payload that is accepted and the length of its reply on the device that `sanitized` leaves. */
+enum { SEVEN = 7, LISTED = 4 * SEVEN };
+static const struct {
+    uint16_t opcode;
+    uint8_t payload[24];
+    size_t length, replied;
+} seven[SEVEN] = {{KULDUVOST_GET_EVENT_RECORDS, {KULDUVOST_LOG_FATAL}, 1, 32 + 8 * KULDUVOST_EVENT_RECORD_SIZE},
+                  {KULDUVOST_GET_EVENT_INTERRUPT_POLICY, {0}, 0, KULDUVOST_EVENT_LOGS},
+                  {KULDUVOST_GET_TIMESTAMP, {0}, 0, 8},
+                  {KULDUVOST_GET_SUPPORTED_LOGS, {0}, 0, 28},
+                  {KULDUVOST_GET_LOG, {EFFECTS, 0, 0, 0, 0, LISTED}, 24, LISTED},
+                  {KULDUVOST_IDENTIFY, {0}, 0, 69},
+                  {KULDUVOST_GET_POISON_LIST, {0, 0, 0, 0, 0, 0, 0, 0, 8}, 16, 32 + 16}};
+
+static bool is_of_seven(uint16_t opcode) {
+    for (size_t i = 0; i < SEVEN; i++) {
+        if (seven[i].opcode == opcode) {
+            return true;
+        }
+    }
+    return false;
+}
+
+static bool is_about_effects(uint16_t opcode) { return opcode == KULDUVOST_GET_SUPPORTED_LOGS || opcode == KULDUVOST_GET_LOG; }
+
+/* The effects log has "4 bytes a command, opcode then effect" (document 01); the effect of each of the seven is 0. */
+#define NO_EFFECT(opcode) (opcode) & 255, (opcode) >> 8, 0, 0
+
+/* Each of the seven at a time that is not due answers what the first mailbox answers, but for the effects log, which has its own. */
+static void pool_seven(kulduvost_device *device) {
+    static const uint8_t listed[LISTED] = {NO_EFFECT(0x0100), NO_EFFECT(0x0102), NO_EFFECT(0x0300), NO_EFFECT(0x0400),
+                                           NO_EFFECT(0x0401), NO_EFFECT(0x4000), NO_EFFECT(0x4300)};
+    static uint8_t told[sizeof reply];
+    sanitized(device, begun);
+    for (size_t i = 0; i < SEVEN; i++) {
+        kulduvost_device first = *device;
+        kulduvost_pool_answer done = pool_at(device, due - 1, seven[i].opcode, seven[i].payload, seven[i].length);
+        expect(done.code == KULDUVOST_SUCCESS && done.length == seven[i].replied, "each of the seven, media disabled");
+        memcpy(told, reply, sizeof told);
+        kulduvost_command_answer asked = command_at(&first, due - 1, seven[i].opcode, seven[i].payload, seven[i].length);
+        expect(asked.code == KULDUVOST_SUCCESS && (is_about_effects(seven[i].opcode) ||
+                                                   (asked.length == done.length && memcmp(reply, told, done.length) == 0)),
+               "the reply that the first mailbox gives");
+    }
+    pool_at(device, 0, KULDUVOST_GET_LOG, seven[4].payload, 24);
+    expect(memcmp(reply, listed, sizeof listed) == 0, "the effects log of the seven");
+    pool_at(device, 0, KULDUVOST_GET_SUPPORTED_LOGS, nothing, 0);
+    expect(reply[24] == LISTED && reply[25] == 0 && reply[26] == 0 && reply[27] == 0, "the size of that effects log");
+}
+
+/* Every opcode there is, with no payload and with the longest: 0003h where the first mailbox gives it; else, of the seven, what it gives,
+ * and of the others 0015h, before the length is looked at. */
+static void pool_opcodes(kulduvost_device *device) {
+    static const uint8_t longest[KULDUVOST_MAILBOX_SIZE] = {0};
+    uint32_t had = 0, other = 0, wrong = 0;
+    sanitized(device, begun);
+    for (uint32_t i = 0; i < 0x20000; i++) {
+        uint16_t opcode = (uint16_t)(i >> 1);
+        size_t length = i % 2 == 0 ? 0 : sizeof longest;
+        kulduvost_device first = *device;
+        uint16_t code = pool_at(device, begun, opcode, longest, length).code;
+        uint16_t of_first = command_at(&first, begun, opcode, longest, length).code;
+        bool of_seven = is_of_seven(opcode), not_here = of_first != KULDUVOST_UNSUPPORTED_OPCODE && !of_seven;
+        had += of_seven;
+        other += not_here;
+        wrong += not_here ? code != KULDUVOST_UNSUPPORTED_MAILBOX : code != of_first;
+    }
+    expect(had == 2 * SEVEN && other == 2 * 8 && wrong == 0, "every opcode through the second mailbox");
+}
+
+/* The refusals in their order, each with what would be refused next. */
+static void pool_refusals(kulduvost_device *device) {
+    static const uint8_t payload[KULDUVOST_MAILBOX_SIZE + 1] = {KULDUVOST_EVENT_LOGS};
+    uint8_t past[24] = {EFFECTS, 1, 0, 0, 0, LISTED}, outside[16] = {KULDUVOST_LINE_SIZE};
+    const size_t most = KULDUVOST_MAILBOX_SIZE;
+    put(outside + 8, KULDUVOST_UNIT_LINES);
+    sanitized(device, begun);
+    expect(pool_lent(device, due, 0x7777, payload, most + 1, most - 1).code == KULDUVOST_REPLY_BUFFER_TOO_SMALL, "too small a buffer");
+    expect(pool_lent(device, due, KULDUVOST_IDENTIFY, payload, 0, 0).code == KULDUVOST_REPLY_BUFFER_TOO_SMALL, "no reply buffer");
+    expect(pool_refuses(device, 0x7777, payload, most + 1, KULDUVOST_INVALID_PAYLOAD_LENGTH), "too long, of an opcode that is not there");
+    expect(pool_refuses(device, KULDUVOST_SET_LSA, payload, most + 1, KULDUVOST_INVALID_PAYLOAD_LENGTH), "too long, of another's");
+    expect(pool_refuses(device, 0x7777, payload, most, KULDUVOST_UNSUPPORTED_OPCODE), "an opcode that is not there");
+    expect(pool_refuses(device, KULDUVOST_SANITIZE, payload, 1, KULDUVOST_UNSUPPORTED_MAILBOX), "another's, and its length wrong");
+    expect(pool_refuses(device, KULDUVOST_GET_LSA, payload, 8, KULDUVOST_UNSUPPORTED_MAILBOX), "another's, and media disabled");
+    expect(pool_refuses(device, KULDUVOST_GET_EVENT_RECORDS, payload, 2, KULDUVOST_INVALID_PAYLOAD_LENGTH), "a wrong length");
+    expect(pool_refuses(device, KULDUVOST_GET_EVENT_RECORDS, payload, 1, KULDUVOST_INVALID_INPUT), "a log too many");
+    expect(pool_refuses(device, KULDUVOST_GET_LOG, payload, 24, KULDUVOST_INVALID_LOG), "another log identifier");
+    expect(pool_refuses(device, KULDUVOST_GET_LOG, past, sizeof past, KULDUVOST_INVALID_INPUT), "past the effects log of the seven");
+    expect(pool_refuses(device, KULDUVOST_GET_POISON_LIST, payload, 16, KULDUVOST_INVALID_INPUT), "an unaligned address");
+    expect(pool_refuses(device, KULDUVOST_GET_POISON_LIST, outside, sizeof outside, KULDUVOST_INVALID_PHYSICAL_ADDRESS), "past the end");
+}
+
+/* A due Sanitize stays due through any of them, and the next command of the first mailbox ends it. */
+static void pool_ends_nothing(kulduvost_device *device) {
+    uint16_t handle;
+    sanitized(device, begun);
+    const kulduvost_device before = *device;
+    for (size_t i = 0; i < SEVEN; i++) {
+        kulduvost_pool_answer done = pool_at(device, due, seven[i].opcode, seven[i].payload, seven[i].length);
+        kulduvost_pool_answer late = pool_at(device, UINT64_MAX, seven[i].opcode, seven[i].payload, seven[i].length);
+        expect(done.code == KULDUVOST_SUCCESS && done.length == seven[i].replied && late.code == done.code && late.length == done.length,
+               "each of the seven, a Sanitize due");
+    }
+    expect(pool_refuses(device, KULDUVOST_SANITIZE, nothing, 0, KULDUVOST_UNSUPPORTED_MAILBOX), "a refused one, a Sanitize due");
+    expect(memcmp(device, &before, sizeof before) == 0 && is_disabled(device), "pool commands at the due time leave the device");
+    expect(records_at(device, due, KULDUVOST_LOG_FATAL, &handle) == 0 && is_over(device), "a command of the first mailbox ends it");
+    expect(pool_at(device, due, KULDUVOST_GET_EVENT_RECORDS, seven[0].payload, 1).length == 32, "then the second sees the emptied log");
+}
+
+static void second_mailbox(kulduvost_device *device) {
+    pool_seven(device);
+    pool_opcodes(device);
+    pool_refusals(device);
+    pool_ends_nothing(device);
+    expect(pool_left_all, "every pool command leaves the device, and the bytes after its reply");
+}
+
 static void poison_entries(kulduvost_device *device) {
     static uint8_t payload[8];
     uint32_t stored = 0;
@@ -472,6 +619,7 @@ int main(void) {
         ended_by_a_refused_call(&heap[0]);
         times(&heap[0]);
         durations(&heap[0]);
+        second_mailbox(&heap[0]);
         poison_entries(&heap[0]);
     }
     free(heap);

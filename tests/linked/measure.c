@@ -109,6 +109,11 @@ static void command(uint16_t opcode, size_t length) {
     sink = kulduvost_command(device, opcode, payload, length, now_is, labels, sizeof labels, reply, sizeof reply).length;
 }
 
+/* the second mailbox (document 02, W-208) */
+static void pool_command(uint16_t opcode, size_t length) {
+    sink = kulduvost_pool_command(device, opcode, payload, length, now_is, reply, sizeof reply).length;
+}
+
 /* A random line of the device, never the same sequence twice: a repeated one would be learned by the processor's branch prediction. The
  * compiler is kept from knowing that the address is aligned, which the plain tests would gain by. */
 static uint64_t random_line(void) {
@@ -155,11 +160,13 @@ static void set_labels(void) {
     command(KULDUVOST_SET_LSA, KULDUVOST_MAILBOX_SIZE);
 }
 
-static void get_poison_list(void) {
+static void of_all_lines(void (*ask)(uint16_t, size_t)) {
     put(payload, 0, 8);
     put(payload + 8, KULDUVOST_UNIT_LINES, 8);
-    command(KULDUVOST_GET_POISON_LIST, 16);
+    ask(KULDUVOST_GET_POISON_LIST, 16);
 }
+static void get_poison_list(void) { of_all_lines(command); }
+static void pool_poison_list(void) { of_all_lines(pool_command); }
 
 static void inject(uint64_t address) {
     put(payload, address, 8);
@@ -175,10 +182,14 @@ static void inject_and_clear(void) {
     command(KULDUVOST_CLEAR_POISON, 72);
 }
 
-static void get_event_records(void) {
+static void of_log_info(void (*ask)(uint16_t, size_t)) {
     payload[0] = KULDUVOST_LOG_INFO;
-    command(KULDUVOST_GET_EVENT_RECORDS, 1);
+    ask(KULDUVOST_GET_EVENT_RECORDS, 1);
 }
+static void get_event_records(void) { of_log_info(command); }
+static void pool_event_records(void) { of_log_info(pool_command); }
+static void pool_timestamp(void) { pool_command(KULDUVOST_GET_TIMESTAMP, 0); }
+static void pool_refused(void) { pool_command(KULDUVOST_SANITIZE, 0); } /* an opcode of the first mailbox */
 
 /* of the oldest record of log Info, which has handle 1 */
 static void clear_event_records(void) {
@@ -265,6 +276,10 @@ static const struct kind {
     {"Inject Poison of a new line that ends a Sanitize, 255 entries", 255 | SANITIZED, 1, ending_inject},
     {"event report that ends a Sanitize", 255 | SANITIZED, 1, ending_event},
     {"media report of a covered line that ends a Sanitize, 256 entries", 256 | SANITIZED, 1, ending_media},
+    {"pool command, Get Timestamp", 255, MANY, pool_timestamp},
+    {"pool command, Get Poison List, 126 records", 126, MANY, pool_poison_list},
+    {"pool command, Get Event Records, 8 held", 255, MANY, pool_event_records},
+    {"pool command, refused: an opcode of the first mailbox", 255, MANY, pool_refused},
     {"make", EMPTY, 1, make},
 };
 enum { KINDS = sizeof kinds / sizeof *kinds };

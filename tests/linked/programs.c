@@ -1,11 +1,12 @@
 /*
  * programs bench | programs probe: the program of document 01 ("Bench program") or of document 10, over the library: records on standard
- * input, a line for each on standard output. Of document 10 the records of the device and of the label store (NW, CM, EV, MD, LT, ES, DT,
- * AR, AB); those of the host's library are unknown marks here.
+ * input, a line for each on standard output. Of document 10 the records of the device and of the label store (NW, CM, PC, EV, MD, LT, ES,
+ * DT, AR, AB); those of the host's library are unknown marks here.
  *
  * What the formats do not show is checked here after each call, and ends the program by a signal: no byte beside what is lent or the
- * device is written, no byte of a payload or record is, a call that is refused or only reads leaves every byte of the device (where a
- * Sanitize was due: of the device after its end), and every command but a Set LSA that is not refused leaves every byte of the label area.
+ * device is written, no byte of a payload or record is, a call that is refused or only reads leaves every byte of the device (where it
+ * ended a Sanitize that was due: of the device after its end; a command of the second mailbox ends none, document 02, W-208), and every
+ * command but a Set LSA that is not refused leaves every byte of the label area.
  */
 #include "kulduvost.h"
 #include "lent.h"
@@ -25,8 +26,8 @@ struct format {
 };
 
 static const struct form bench_forms[] = {{"NW", 6, 0}, {"CM", 14, 12}, {"EV", 139, 0}, {"MD", 23, 0}, {"LT", 10, 0}, {NULL, 0, 0}};
-static const struct form probe_forms[] = {{"NW", 6, 0}, {"CM", 17, 15}, {"EV", 13, 11}, {"MD", 23, 0}, {"LT", 10, 0},
-                                          {"ES", 2, 0}, {"DT", 2, 0},   {"AR", 6, 0},   {"AB", 6, 0},  {NULL, 0, 0}};
+static const struct form probe_forms[] = {{"NW", 6, 0}, {"CM", 17, 15}, {"PC", 17, 15}, {"EV", 13, 11}, {"MD", 23, 0}, {"LT", 10, 0},
+                                          {"ES", 2, 0}, {"DT", 2, 0},   {"AR", 6, 0},   {"AB", 6, 0},   {NULL, 0, 0}};
 static const struct format bench = {"bench", bench_forms, 2048, 0};
 static const struct format probe = {"probe", probe_forms, 4096, 12};
 enum { LABEL_STORE = 8192 }; /* bytes (document 10, W-206): what AR may lend of it, and where AB ends at most */
@@ -51,7 +52,7 @@ static const struct form *form_of(const struct format *format, const uint8_t *re
 
 /* Whether the sizes that a record of the format carries, its own length aside, are within their limits. */
 static bool within_limits(const struct format *format, const uint8_t *record) {
-    if (marked(record, "CM")) {
+    if (marked(record, "CM") || marked(record, "PC")) {
         return format->room_at == 0 || number(record + format->room_at, 2) <= format->most;
     }
     if (marked(record, "AR")) {
@@ -193,24 +194,23 @@ static void put_bytes(const uint8_t *bytes, size_t length) {
     put_hex(bytes, length);
 }
 
-/* bench: the length and, if there are any, the bytes. probe: the length, the bytes or `-`, whether the others are still the fill, and the
- * vector (document 10, W-204). */
-static void put_reply(const struct tested *tested, kulduvost_command_answer done, struct lent reply, uint8_t fill) {
-    if (done.length > reply.length) {
+/* bench: the length and, if there are any, the bytes. probe: the length, the bytes or `-`, and whether the others are still the fill. The
+ * line is not ended: a column may follow. */
+static void put_reply(const struct tested *tested, const char *mark, uint16_t code, size_t length, struct lent reply, uint8_t fill) {
+    if (length > reply.length) {
         stop("a reply is longer than its buffer");
     }
-    bool kept = all_are(reply.bytes + done.length, reply.length - done.length, fill);
-    printf("CM %u %zu", done.code, done.length);
+    bool kept = all_are(reply.bytes + length, reply.length - length, fill);
+    printf("%s %u %zu", mark, code, length);
     if (tested->format == &bench) {
         if (!kept) {
             stop("a byte after the reply was written");
         }
-        fputs(done.length > 0 ? " " : "", stdout);
-        put_hex(reply.bytes, done.length);
-        putchar('\n');
+        fputs(length > 0 ? " " : "", stdout);
+        put_hex(reply.bytes, length);
     } else {
-        put_bytes(reply.bytes, done.length);
-        printf(" %d %u\n", kept, done.vector);
+        put_bytes(reply.bytes, length);
+        printf(" %d", kept);
     }
 }
 
@@ -233,26 +233,59 @@ static bool serve_make(struct tested *tested, const uint8_t *record) {
     return tested->format == &probe || code == KULDUVOST_SUCCESS;
 }
 
+/* A command of either mailbox, as its record has it (document 10: PC has the fields of CM), with what it is lent. */
+struct asked {
+    uint64_t time;
+    uint16_t opcode;
+    const uint8_t *payload_at; /* in the record */
+    struct lent payload, reply;
+    uint8_t fill; /* each byte of the reply buffer before */
+};
+
 /* bench carries no room and fill: the least room, and a fill that is not the byte of an unused reply. */
+static struct asked ask(const struct tested *tested, const uint8_t *record, size_t size) {
+    struct asked asked = {.time = number(record + 2, 8), .opcode = (uint16_t)number(record + 10, 2)};
+    asked.fill = tested->format == &bench ? 0xc3 : record[14];
+    asked.payload_at = record + (tested->format == &bench ? 14 : 17);
+    asked.payload = lend(asked.payload_at, size - (size_t)(asked.payload_at - record));
+    asked.reply = lent_new(tested->format == &bench ? KULDUVOST_MAILBOX_SIZE : number(record + 12, 2));
+    memset(asked.reply.bytes, asked.fill, asked.reply.length);
+    return asked;
+}
+
+static void answer(const struct tested *tested, struct asked asked, const char *mark, uint16_t code, size_t length) {
+    take_back(asked.payload, asked.payload_at);
+    lent_check(asked.reply);
+    put_reply(tested, mark, code, length, asked.reply, asked.fill);
+    lent_free(asked.reply);
+}
+
+/* probe shows the vector too (document 10, W-204). */
 static void serve_command(struct tested *tested, const uint8_t *record, size_t size) {
-    size_t room = tested->format == &bench ? KULDUVOST_MAILBOX_SIZE : number(record + 12, 2);
-    uint8_t fill = tested->format == &bench ? 0xc3 : record[14];
-    uint64_t time = number(record + 2, 8);
-    uint16_t opcode = (uint16_t)number(record + 10, 2);
-    const uint8_t *payload_at = record + (tested->format == &bench ? 14 : 17);
-    struct lent payload = lend(payload_at, size - (size_t)(payload_at - record));
+    struct asked asked = ask(tested, record, size);
     struct lent area = lend_labels(tested);
-    struct lent reply = lent_new(room);
-    memset(reply.bytes, fill, room);
-    before_call_at(tested, time, false);
-    kulduvost_command_answer done = kulduvost_command(device_of(tested), opcode, payload.bytes, payload.length, time, area.bytes,
-                                                      area.length, reply.bytes, reply.length);
+    before_call_at(tested, asked.time, false);
+    kulduvost_command_answer done =
+        kulduvost_command(device_of(tested), asked.opcode, asked.payload.bytes, asked.payload.length, asked.time, area.bytes, area.length,
+                          asked.reply.bytes, asked.reply.length);
     after_call(tested, is_refusal(done.code));
-    take_back(payload, payload_at);
-    take_labels_back(tested, area, done.code != KULDUVOST_SUCCESS || opcode != KULDUVOST_SET_LSA);
-    lent_check(reply);
-    put_reply(tested, done, reply, fill);
-    lent_free(reply);
+    take_labels_back(tested, area, done.code != KULDUVOST_SUCCESS || asked.opcode != KULDUVOST_SET_LSA);
+    answer(tested, asked, "CM", done.code, done.length);
+    if (tested->format == &probe) {
+        printf(" %u", done.vector);
+    }
+    putchar('\n');
+}
+
+/* "Its commands change nothing and never end a Sanitize" (document 02, W-208): whatever the answer and the time, the device stays. */
+static void serve_pool(struct tested *tested, const uint8_t *record, size_t size) {
+    struct asked asked = ask(tested, record, size);
+    before_call(tested);
+    kulduvost_pool_answer done = kulduvost_pool_command(device_of(tested), asked.opcode, asked.payload.bytes, asked.payload.length,
+                                                        asked.time, asked.reply.bytes, asked.reply.length);
+    after_call(tested, true);
+    answer(tested, asked, "PC", done.code, done.length);
+    putchar('\n');
 }
 
 static void serve_event(struct tested *tested, const uint8_t *record, size_t size) {
@@ -324,6 +357,8 @@ static bool serve(struct tested *tested, const uint8_t *record, size_t size) {
     }
     if (marked(record, "CM")) {
         serve_command(tested, record, size);
+    } else if (marked(record, "PC")) {
+        serve_pool(tested, record, size);
     } else if (marked(record, "EV")) {
         serve_event(tested, record, size);
     } else if (marked(record, "MD")) {

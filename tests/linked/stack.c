@@ -88,7 +88,7 @@ struct row {
     const char *name;
     int few, many;      /* entries held before: 0 and 256, or the nearest numbers with which the kind occurs, or NONE */
     void (*call)(void);
-    uint16_t opcode;    /* of a command */
+    uint16_t opcode;    /* of a command of either mailbox */
     const uint8_t *payload;
     size_t length;      /* of a payload or an event record */
     size_t missing;     /* bytes that the reply buffer lacks */
@@ -102,7 +102,8 @@ struct row {
     bool flag_before;   /* the overflow flag is set before */
     int info_room;      /* records that log Info has room for before */
     bool disabled;      /* the interrupts of the logs are disabled before; otherwise enabled */
-    enum { MEDIA_ENABLED, MEDIA_DISABLED, WORK_DUE } media; /* before: a Sanitize runs; it is due to end, and the call ends it */
+    /* before: a Sanitize runs; it is due to end, and the call ends it, but for a pool command (document 02, W-208) */
+    enum { MEDIA_ENABLED, MEDIA_DISABLED, WORK_DUE } media;
     uint16_t code;      /* the answer expected */
     uint8_t vector;
     uint64_t values[3];
@@ -132,6 +133,9 @@ CALL(command, kulduvost_command_answer, kulduvost_command,
      (&device, now->opcode, now->payload, now->length, CALL_TIME, area, (size_t)(KULDUVOST_LABEL_AREA_SIZE + now->area_more), reply,
       sizeof reply - now->missing),
      a.code, a.vector, {a.length})
+CALL(pool_command, kulduvost_pool_answer, kulduvost_pool_command,
+     (&device, now->opcode, now->payload, now->length, CALL_TIME, reply, sizeof reply - now->missing), .code = a.code,
+     .values = {a.length})
 CALL(event_report, kulduvost_event_answer, kulduvost_event_report, (&device, CALL_TIME, now->log, record, now->length), a.code, a.vector,
      {a.stored})
 CALL(media_report, kulduvost_media_answer, kulduvost_media_report, (&device, CALL_TIME, now->address, now->lines, now->type),
@@ -165,6 +169,7 @@ static const uint8_t clear_flagged[8] = {KULDUVOST_LOG_INFO, 0x80, 1, 0, 0, 0, 1
 static const uint8_t mode_two[5] = {0, 0, 0, 0, 2};
 #define EFFECTS 0x0d, 0xa9, 0xc0, 0xb5, 0xbf, 0x41, 0x4b, 0x78, 0x8f, 0x79, 0x96, 0xb1, 0x62, 0x3b, 0x3f, 0x17
 static const uint8_t whole_log[24] = {EFFECTS, 0, 0, 0, 0, 60}, log_past[24] = {EFFECTS, 1, 0, 0, 0, 60}, other_log[24] = {0};
+static const uint8_t pool_log[24] = {EFFECTS, 0, 0, 0, 0, 28}; /* the whole one of the second mailbox */
 /* offset 4, then length 4 of a Get LSA or reserved 4 of a Set LSA, whose data are zeros (document 02, W-206) */
 #define HALVES(low, high) (low) & 255, (low) >> 8, 0, 0, (high) & 255, (high) >> 8, 0, 0
 static const uint8_t get_half[8] = {HALVES(2048, 2048)}, get_none[8] = {HALVES(4096, 0)}, get_longer[8] = {HALVES(0, 2049)};
@@ -184,7 +189,9 @@ static const uint8_t ninth_injected[KULDUVOST_EVENT_RECORD_SIZE] = {[16] = 128, 
 
 /* ---- The kinds of calls */
 #define MAKE(n) .call = make, .units = n
-#define ASK(name, bytes, size) .call = command, .opcode = KULDUVOST_##name, .payload = bytes, .length = size
+#define WITH(name, bytes, size) .opcode = KULDUVOST_##name, .payload = bytes, .length = size
+#define ASK(name, bytes, size) .call = command, WITH(name, bytes, size)
+#define POOL(name, bytes, size) .call = pool_command, WITH(name, bytes, size)
 #define EVENT(to, size) .call = event_report, .log = KULDUVOST_##to, .length = size
 #define MEDIA(at, count, kind) .call = media_report, .address = at, .lines = count, .type = kind
 #define TEST(at) .call = line_test, .address = at
@@ -299,6 +306,27 @@ static const struct row rows[] = {
     {"command, refused: label area too great", 0, 256, ASK(IDENTIFY, none, 0), .area_more = 1, REFUSED(REPLY_BUFFER_TOO_SMALL)},
     {"command, refused: payload over 2,048 bytes", 0, 256, ASK(IDENTIFY, too_long, sizeof too_long), BAD_LENGTH},
     {"command, refused: unknown opcode", 0, 256, .call = command, .opcode = 0x7777, .payload = none, REFUSED(UNSUPPORTED_OPCODE)},
+    {"pool command, Get Event Records, none held", 0, 256, POOL(GET_EVENT_RECORDS, log_warning, 1), .values = {32}},
+    {"pool command, Get Event Records, 8 held", 0, 256, POOL(GET_EVENT_RECORDS, log_info, 1), .values = {32 + 8 * 128}},
+    {"pool command, Get Event Records, a Sanitize due and not ended", 0, 256, POOL(GET_EVENT_RECORDS, log_info, 1),
+     .media = WORK_DUE, .values = {32 + 8 * 128}},
+    {"pool command, Get Event Records, refused: log", 0, 256, POOL(GET_EVENT_RECORDS, log_five, 1), BAD_INPUT},
+    {"pool command, Get Event Interrupt Policy", 0, 256, POOL(GET_EVENT_INTERRUPT_POLICY, none, 0), .values = {5}},
+    {"pool command, Get Timestamp", 0, 256, POOL(GET_TIMESTAMP, none, 0), .values = {8}},
+    {"pool command, Get Timestamp, a Sanitize due and not ended", 0, 256, POOL(GET_TIMESTAMP, none, 0), .media = WORK_DUE,
+     .values = {8}},
+    {"pool command, Get Supported Logs", 0, 256, POOL(GET_SUPPORTED_LOGS, none, 0), .values = {28}},
+    {"pool command, Get Log, all of it", 0, 256, POOL(GET_LOG, pool_log, 24), .values = {28}},
+    {"pool command, Get Log, refused: range", 0, 256, POOL(GET_LOG, whole_log, 24), BAD_INPUT},
+    {"pool command, Identify", 0, 256, POOL(IDENTIFY, none, 0), .values = {69}},
+    {"pool command, Get Poison List, no record", 0, 256, POOL(GET_POISON_LIST, no_entry, 16), .values = {32}},
+    {"pool command, Get Poison List, 126 records", 126, 256, POOL(GET_POISON_LIST, all_lines, 16), .values = {32 + 126 * 16}},
+    {"pool command, Get Poison List, 126 records, media disabled", 126, 256, POOL(GET_POISON_LIST, all_lines, 16),
+     .media = MEDIA_DISABLED, .values = {32 + 126 * 16}},
+    {"pool command, Get Poison List, refused: past the end", 0, 256, POOL(GET_POISON_LIST, past_end, 16), BAD_ADDRESS},
+    {"pool command, refused: reply buffer too small", 0, 256, POOL(IDENTIFY, none, 0), .missing = 1, REFUSED(REPLY_BUFFER_TOO_SMALL)},
+    {"pool command, refused: an opcode of the first mailbox", 0, 256, POOL(SANITIZE, none, 0), REFUSED(UNSUPPORTED_MAILBOX)},
+    {"pool command, refused: length", 0, 256, POOL(IDENTIFY, none, 1), BAD_LENGTH},
     {"event report to a log with room", 0, 256, EVENT(LOG_INFO, 128), .values = {1}, .info_room = 1, .more_records = 1,
      .event = eighth_event},
     {"event report to an empty log", 0, 256, EVENT(LOG_WARNING, 128), .values = {1}, RAISES(WARNING), .more_records = 1},
@@ -453,9 +481,10 @@ static void prepare(const struct row *row, int entries) {
 /* Whether the call answered, and device and label area hold after it, what the row says of so many entries. */
 static bool as_expected(const struct row *row, int entries) {
     uint64_t lines = (uint64_t)entries * (1 + row->long_by);
-    bool no_logs = row->call == make || row->media == WORK_DUE; /* none made before, or all emptied by the call */
+    bool ended = row->media == WORK_DUE && row->call != pool_command;
+    bool no_logs = row->call == make || ended; /* none made before, or all emptied by the call */
     int records = no_logs ? 0 : 2 * KULDUVOST_EVENT_LOG_RECORDS - row->info_room, overflow = no_logs ? 0 : 1;
-    bool disabled = row->media == MEDIA_DISABLED || row->code == KULDUVOST_STARTED;
+    bool disabled = (row->media != MEDIA_ENABLED && !ended) || row->code == KULDUVOST_STARTED;
     struct held after = held();
     bool same = told.code == row->code && told.vector == row->vector && labels_as_expected(row) && after.disabled == disabled;
     for (size_t i = 0; i < 3; i++) {

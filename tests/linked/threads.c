@@ -62,13 +62,17 @@ static uint64_t any_address(struct tested *tested) {
     return below(tested, 50) == 0 ? next(tested) : below(tested, 1200) * KULDUVOST_LINE_SIZE;
 }
 
+static void add_reply(struct tested *tested, uint16_t code, size_t length) {
+    add(tested, code);
+    add(tested, length);
+    add_bytes(tested, tested->reply, length);
+}
+
 static void command(struct tested *tested, uint16_t opcode, const uint8_t *payload, size_t length) {
     kulduvost_command_answer done = kulduvost_command(&tested->device, opcode, payload, length, next(tested), tested->labels,
                                                       sizeof tested->labels, tested->reply, sizeof tested->reply);
-    add(tested, done.code);
     add(tested, done.vector);
-    add(tested, done.length);
-    add_bytes(tested, tested->reply, done.length);
+    add_reply(tested, done.code, done.length);
 }
 
 static void poison_command(struct tested *tested) {
@@ -123,6 +127,23 @@ static void other_command(struct tested *tested) {
     command(tested, opcodes[below(tested, sizeof opcodes / sizeof *opcodes)], payload, 0);
 }
 
+/* What the pool manager looks at through its own mailbox (document 02, W-208), on the thread that has the device: a list, a log, what needs
+ * no payload, and an opcode that is refused there. */
+static void pool_command(struct tested *tested) {
+    static const struct {
+        uint16_t opcode;
+        size_t length;
+    } asked[] = {{KULDUVOST_GET_POISON_LIST, 16}, {KULDUVOST_GET_EVENT_RECORDS, 1}, {KULDUVOST_GET_EVENT_INTERRUPT_POLICY, 0},
+                 {KULDUVOST_GET_TIMESTAMP, 0},    {KULDUVOST_IDENTIFY, 0},          {KULDUVOST_SANITIZE, 0}};
+    size_t which = below(tested, sizeof asked / sizeof *asked);
+    uint8_t payload[16];
+    put(payload, asked[which].length == 1 ? below(tested, 6) : any_address(tested), 8);
+    put(payload + 8, below(tested, 3000), 8);
+    kulduvost_pool_answer done = kulduvost_pool_command(&tested->device, asked[which].opcode, payload, asked[which].length, next(tested),
+                                                        tested->reply, sizeof tested->reply);
+    add_reply(tested, done.code, done.length);
+}
+
 static void event_report(struct tested *tested) {
     uint8_t record[KULDUVOST_EVENT_RECORD_SIZE];
     uint64_t time = next(tested);
@@ -168,7 +189,7 @@ static void one_call(struct tested *tested) {
     if (below(tested, 50) == 0) {
         sanitize(tested);
     }
-    switch (below(tested, 13)) {
+    switch (below(tested, 15)) {
     case 0: poison_list(tested); break;
     case 1: event_command(tested); break;
     case 2: other_command(tested); break;
@@ -178,6 +199,8 @@ static void one_call(struct tested *tested) {
     case 6: questions(tested); break;
     case 7: poison_command(tested); break;
     case 8: label_command(tested); break;
+    case 9:
+    case 10: pool_command(tested); break;
     default: media_report(tested); break;
     }
 }

@@ -12,6 +12,7 @@ use Rattle.settings.proofs.media.MediaState.Laws as MediaState
 use Rattle.mailbox.proofs.device.Device.Laws as Device
 use Rattle.embed.specs.Left.{device-size}
 use Rattle.embed.proofs.Done.Laws as Done
+use Rattle.embed.proofs.PoolDone.Laws as PoolDone
 use Rattle.embed.proofs.Event.Laws as Event
 use Rattle.embed.proofs.Media.Laws as Media
 use Rattle.embed.proofs.Line.Laws as Line
@@ -147,6 +148,18 @@ done-vector-at = refl
 
 pub done-length-at : fieldOf Done.mir 2 ≡ some (tyInt w64, 8)
 done-length-at = refl
+
+pub pool-done-size : size PoolDone.mir ≡ 16
+pool-done-size = refl
+
+pub pool-done-align : align PoolDone.mir ≡ 8
+pool-done-align = refl
+
+pub pool-done-code-at : fieldOf PoolDone.mir 0 ≡ some (tyInt w16, 0)
+pool-done-code-at = refl
+
+pub pool-done-length-at : fieldOf PoolDone.mir 1 ≡ some (tyInt w64, 8)
+pool-done-length-at = refl
 
 pub event-size : size Event.mir ≡ 4
 event-size = refl

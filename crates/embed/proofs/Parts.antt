@@ -33,11 +33,14 @@ use Rattle.settings.specs.Vector.{numbered}
 use Rattle.mailbox.specs.Ending.{Ends, AfterEnding}
 use Rattle.mailbox.specs.Mailbox.{answer, outcome, area-after}
 use Rattle.mailbox.specs.DeviceCalls.{event-report, media-report, line-test, damage-total}
+use Rattle.mailbox.specs.Pool.{pool-answer}
+use Rattle.settings.specs.Contracts.{Replied}
+use Rattle.wire.specs.declared.done.Done as Wire
 use Rattle.mailbox.specs.Contracts.{Answered, EventDone, MediaDone}
-use Rattle.mailbox.specs.ByParts.{AreaAnswered, of-area, of-list, of-injection, of-log, log-at, log-named, device-of, with-log, ListAnswered, InjectAnswered, LogAnswered, SettingsAnswered, EventIn, MediaIn}
+use Rattle.mailbox.specs.ByParts.{AreaAnswered, of-area, of-list, of-injection, of-log, log-at, log-named, device-of, with-log, ListAnswered, InjectAnswered, LogAnswered, SettingsAnswered, PoolIn, EventIn, MediaIn}
 use Rattle.settings.specs.Media.{enabled, due}
 use Rattle.settings.specs.declared.media.MediaState.{MediaState}
-use Rattle.mailbox.proofs.Laws.{ends-none, ends-due, after-command, after-event, after-media, not-area, not-area-sized, other-leaves, numbered-none, command-vector, list-parts-answered, inject-parts-answered, log-parts-answered, settings-parts-answered, event-parts-done, media-parts-done}
+use Rattle.mailbox.proofs.Laws.{ends-none, ends-due, after-command, after-event, after-media, not-area, not-area-sized, other-leaves, numbered-none, command-vector, list-parts-answered, inject-parts-answered, log-parts-answered, settings-parts-answered, pool-parts-answered, event-parts-done, media-parts-done}
 use Rattle.mailbox.proofs.device.Device as DeviceT
 use Rattle.mailbox.proofs.device.Device.Laws as DeviceL
 use Rattle.labels.specs.Labels.{label-size}
@@ -88,6 +91,17 @@ total-in-asks d v was = v .poison .few
 
 pub total-in-gives : (d : Device) → ValidDevice d → Held d → (r : ℕ) → r ≡ total-in (d .poison .count) (d .poison .lengths) → r ≡ damage-total (state-of d)
 total-in-gives d v was r e = e ∙ total-is (d .poison) (sized d was)
+
+-- ---- a command of the second mailbox (document 02, W-208)
+module _ (d : Device) (opcode : ℕ) (payload : List ℕ) (time : ℕ) (reply : List ℕ) (v : ValidDevice d) (was : Held d) (k : ℕ) (named : (k ≡ log-named payload) × (k < 5)) where
+  pub pool-command-in-asks : (d .volatile + d .persistent ≤ most-units) × ValidSlots (unit-lines * (d .volatile + d .persistent)) (d .poison .count) (d .poison .starts) (d .poison .lengths) (d .poison .kinds)
+      × ValidLog (getD (d .logs) k blank)
+  pool-command-in-asks = (v .few-units, valid-slots (d .poison) (sized d was) (v .poison), v .logs .each k (named .1))
+
+  pub pool-command-in-gives : (r : Wire.Done) (after : List ℕ)
+      → PoolIn (d .volatile) (d .persistent) (d .clock) (d .policy) (getD (d .logs) k blank) (d .poison) opcode payload time r reply after
+      → Replied (pool-answer (state-of d) opcode payload time (length reply)) r reply after
+  pool-command-in-gives r after a = pool-parts-answered d (named .0) a
 
 -- ---- the end of a Sanitize: one log
 module _ (d : Device) (number : ℕ) (v : ValidDevice d) (was : Held d) (k : ℕ) (named : (k ≡ log-at number) × (k < 5)) where

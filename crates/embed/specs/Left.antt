@@ -22,7 +22,9 @@ use Rattle.mailbox.specs.ByParts.{device-of, with-log}
 use Rattle.settings.specs.Media.{enabled}
 use Rattle.settings.specs.Clock.{unset}
 use Rattle.mailbox.specs.DeviceCalls.{LineOutcome}
+use Rattle.wire.specs.declared.done.Done as Wire
 use Rattle.embed.specs.declared.Done.{Done}
+use Rattle.embed.specs.declared.PoolDone.{PoolDone}
 use Rattle.embed.specs.declared.Event.{Event}
 use Rattle.embed.specs.declared.Media.{Media}
 use Rattle.embed.specs.declared.Line.{Line}
@@ -37,6 +39,10 @@ made code d = record { code = code; device = d }
 -- the number of a vector stands for its case
 abbrev pub answered : Done → Device → Answer
 answered r d = record { code = r .code; length = r .length; vector = numbered (r .vector); device = d }
+
+-- a command of the second mailbox (document 02, W-208): the device behind the pointer stays
+abbrev pub pool-told : PoolDone → Wire.Done
+pool-told r = record { code = r .code; length = r .length }
 
 -- ---- the end of a Sanitize (document 02, W-207), log by log
 -- log k of the device d behind the pointer is emptied, and nothing else of it changes

@@ -8,6 +8,7 @@ use events::empty;
 use events::status::Status;
 use mailbox::by_parts;
 use mailbox::device::Device;
+use mailbox::pool;
 use poison::line_test;
 use poison::line_test::LineTest;
 use poison::list;
@@ -23,18 +24,27 @@ ghost use Rattle.poison.specs.LineTest.{list-in};
 ghost use Rattle.commands.specs.Numbers.{most-units};
 ghost use Rattle.mailbox.specs.State.{ValidDevice, state-of};
 ghost use Rattle.mailbox.specs.Mailbox.{outcome, area-after};
+ghost use Rattle.mailbox.specs.Pool.{pool-answer};
+ghost use Rattle.settings.specs.Contracts.{Replied};
 ghost use Rattle.mailbox.specs.DeviceCalls.{make, event-report, media-report, line-test, event-status, damage-total};
 ghost use Rattle.mailbox.specs.Contracts.{Answered, Makes, EventDone, MediaDone, StatusGiven};
 ghost use Rattle.mailbox.specs.Ending.{Ends, AfterEnding};
 ghost use Rattle.mailbox.specs.declared.device.Device.{Device};
 ghost use Rattle.mailbox.specs.ByParts.{of-area, of-list, of-injection, of-log, log-at};
-ghost use Rattle.embed.specs.Left.{made, answered, LogEmptied, WorkEnded, Commanded, WithoutArea, event-told, media-told, LineTold, seen, device-size};
+ghost use Rattle.embed.specs.Left.{made, answered, pool-told, LogEmptied, WorkEnded, Commanded, WithoutArea, event-told, media-told, LineTold, seen, device-size};
 
 // The answer to a command: the return number, the number of the vector to raise (document 02, W-204; 0 for none) and the length of the reply.
 #[repr(C)]
 pub struct Done {
     pub code: u16,
     pub vector: u8,
+    pub length: usize,
+}
+
+// The answer to a command of the second mailbox (document 02, W-208): the return number and the length of the reply. It has no vector: none of its commands raises one.
+#[repr(C)]
+pub struct PoolDone {
+    pub code: u16,
     pub length: usize,
 }
 
@@ -305,6 +315,44 @@ pub extern "C" fn kulduvost_command(
         return run_on_area(device, opcode, payload, time, area, reply);
     } else {
         return run_on_device(device, opcode, payload, time, area, reply);
+    }
+}
+
+// A command of the second mailbox, the pool manager's, with the caller's time (document 02, W-208). The reply is written to the lent buffer; nothing is stored to the device, and a due Sanitize is not ended. Of the device the
+// arrays of the poison list are lent to be read, and the log that the payload names, the clock and the policy are copied out.
+// Requires a valid device, and leaves it. Ensures that the number, the length and every byte of the buffer are those of `pool-answer`.
+#[no_mangle]
+pub extern "C" fn kulduvost_pool_command(
+    device: &Device,
+    opcode: u16,
+    payload: &[u8],
+    time: u64,
+    reply: &mut [u8],
+) -> PoolDone
+    requires { ⌜ ValidDevice (now device) ⌝ }
+    ensures { λ r. ⌜ Replied (pool-answer (state-of (now (device .entry))) opcode (now (payload .entry)) time (length (now (reply .entry)))) (pool-told r) (now (reply .entry)) (now (reply .exit)) ⌝ }
+{
+    let k = by_parts::log_named(payload);
+    let a = pool::pool_command_in(
+        &device.poison.starts,
+        &device.poison.lengths,
+        &device.poison.kinds,
+        device.poison.count,
+        device.poison.overflow,
+        device.poison.overflow_time,
+        device.logs[k],
+        device.clock,
+        device.policy,
+        device.volatile,
+        device.persistent,
+        opcode,
+        payload,
+        time,
+        reply,
+    );
+    PoolDone {
+        code: a.code,
+        length: a.length,
     }
 }
 

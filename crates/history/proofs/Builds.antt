@@ -17,14 +17,16 @@ use Rattle.events.specs.Log.{LogState, log-at}
 use Rattle.labels.specs.Labels.{label-size, zero-area}
 use Rattle.mailbox.specs.State.{DeviceState, ValidDevice, state-of}
 use Rattle.mailbox.specs.declared.device.Device.{Device}
-use Rattle.commands.specs.Commands.{commands, known}
+use Rattle.commands.specs.Commands.{commands, rows-of, known}
+use Rattle.commands.specs.declared.mailboxes.Mailbox.the-variants.{Pool}
+use Rattle.mailbox.specs.Pool.{pool-answer}
 use Rattle.commands.proofs.Laws.{known-one}
 use Rattle.commands.specs.EffectsLog.{effects-log-id}
 use Rattle.mailbox.specs.Outcome.{Outcome}
 use Rattle.mailbox.specs.Mailbox.{outcome, area-after}
 use Rattle.mailbox.specs.DeviceCalls as Device
 use Rattle.wire.specs.Wire.{splice}
-use Rattle.history.specs.Builds.{all-bytes, Slice, MakeAsked, CommandAsked, EventAsked, MediaAsked, LineAsked, Build, Handed, by-make, by-command, by-event-report, by-media-report, Meets, RefusesAll, RefusesOne, every-make, every-command, every-event-report, every-media-report, every-line-test, reply-of, FixedReply, among, telling, TellsNothing, of-command, of-labels, of-event-report, of-media-report, of-line-test, of-event-status, of-damage-total, ChangesNothing, changing, LeavesOne, KeepsFirst, of-media, of-events}
+use Rattle.history.specs.Builds.{all-bytes, Slice, MakeAsked, CommandAsked, PoolAsked, EventAsked, MediaAsked, LineAsked, Build, Handed, by-make, by-command, by-event-report, by-media-report, Meets, RefusesAll, RefusesOne, every-make, every-command, every-event-report, every-media-report, every-line-test, every-pool-command, reply-of, pool-reply-of, FixedReply, among, telling, TellsNothing, of-command, of-labels, of-event-report, of-media-report, of-line-test, of-event-status, of-damage-total, of-pool-command, ChangesNothing, changing, LeavesOne, KeepsFirst, of-media, of-events}
 use Rattle.wire.proofs.Laws.{and-parts}
 use Rattle.history.proofs.Computing.{rules}
 
@@ -63,6 +65,11 @@ lends area each sized opcode payload o p =
 -- the same with an area of zeros
 abbrev asks : (opcode : ℕ) (payload : List ℕ) → ltb opcode 65536 ≡ true → short payload ≡ true → CommandAsked
 asks = lends zero-area refl (length-replicate {A = ℕ} label-size 0)
+
+-- a command of the second mailbox at time 0 with that buffer
+abbrev pool-asks : (opcode : ℕ) (payload : List ℕ) → ltb opcode 65536 ≡ true → short payload ≡ true → PoolAsked
+pool-asks opcode payload o p =
+    record { opcode = opcode; payload = payload; time = 0; before = buffer; opcode-u16 = ltb-true opcode 65536 o; payload-slice = slice payload p; time-u64 = omega arith; before-slice = slice buffer refl }
 
 -- ---- devices of a build
 -- a device that the build handed out, valid, with a view
@@ -124,6 +131,17 @@ module _ {b : Build} (m : Meets b) where
         let r = m .command (p .device) (p .handed) (p .valid) a .done in
         ap₂ take (r .size) (r .bytes)
         ∙ ap (λ x. take (length (outcome x (a .opcode) (a .payload) (a .time) (a .area) (length (a .before)) .reply)) (splice 0 (outcome x (a .opcode) (a .payload) (a .time) (a .area) (length (a .before)) .reply) (a .before))) (p .view)
+
+    -- so of the second mailbox
+    pool-code : (a : PoolAsked) → b .pool-command (p .device) a .answer .code ≡ pool-answer s (a .opcode) (a .payload) (a .time) (length (a .before)) .code
+    pool-code a = m .pool-command (p .device) (p .handed) (p .valid) a .code ∙ ap (λ x. pool-answer x (a .opcode) (a .payload) (a .time) (length (a .before)) .code) (p .view)
+
+    pool-reply : (a : PoolAsked) → pool-reply-of (b .pool-command (p .device) a)
+        ≡ take (length (pool-answer s (a .opcode) (a .payload) (a .time) (length (a .before)) .bytes)) (splice 0 (pool-answer s (a .opcode) (a .payload) (a .time) (length (a .before)) .bytes) (a .before))
+    pool-reply a =
+        let r = m .pool-command (p .device) (p .handed) (p .valid) a in
+        ap₂ take (r .size) (r .bytes)
+        ∙ ap (λ x. take (length (pool-answer x (a .opcode) (a .payload) (a .time) (length (a .before)) .bytes)) (splice 0 (pool-answer x (a .opcode) (a .payload) (a .time) (length (a .before)) .bytes) (a .before))) (p .view)
 
     event-code : (a : EventAsked) → b .event-report (p .device) a .code ≡ Device.event-report s (a .time) (a .log) (a .event) .code
     event-code a = m .event-report (p .device) (p .handed) (p .valid) a .done .code ∙ ap (λ x. Device.event-report x (a .time) (a .log) (a .event) .code) (p .view)
@@ -257,6 +275,43 @@ succeeds n =
     zeros : (k n : ℕ) → ltb k 65536 ≡ true → short (replicate n 0) ≡ true → outcome (Device.make 1 0 .next) k (replicate n 0) 0 zero-area 2048 .code ≡ 0 → Succeeds k
     zeros k n s l c = record { payload = replicate n 0; small = s; lent = l; taken = λ r. r .not-success c }
 
+-- so of the second mailbox
+record PoolSucceeds (opcode : ℕ) : Type 0 where
+  payload : List ℕ
+  small : ltb opcode 65536 ≡ true
+  lent : short payload ≡ true
+  taken : pool-answer (Device.make 1 0 .next) opcode payload 0 2048 .code ≡ 0
+
+pool-succeeds : (n : ℕ) → known (rows-of Pool) n ≡ true → PoolSucceeds n
+unfolding rules
+pool-succeeds n =
+    known-one PoolSucceeds (rows-of Pool) (
+      zeros 0x0100 1 refl refl refl,
+      (
+        zeros 0x0102 0 refl refl refl,
+        (
+          zeros 0x0300 0 refl refl refl,
+          (
+            zeros 0x0400 0 refl refl refl,
+            (
+              record { payload = effects-log-id ++ replicate 8 0; small = refl; lent = refl; taken = refl },
+              (
+                zeros 0x4000 0 refl refl refl,
+                (
+                  zeros 0x4300 16 refl refl refl,
+                  tt,
+                ),
+              ),
+            ),
+          ),
+        ),
+      ),
+    )
+    n
+  where
+    zeros : (k n : ℕ) → ltb k 65536 ≡ true → short (replicate n 0) ≡ true → pool-answer (Device.make 1 0 .next) k (replicate n 0) 0 2048 .code ≡ 0 → PoolSucceeds k
+    zeros k n s l c = record { payload = replicate n 0; small = s; lent = l; taken = c }
+
 -- A build that refuses every call of one kind, be it only every command of one opcode, does not meet the contracts.
 pub refuses-one-fails : (b : Build) → RefusesOne b → Meets b → ⊥
 unfolding rules
@@ -269,6 +324,10 @@ refuses-one-fails b (every-event-report f) m = f (made m one-unit .device) (made
 refuses-one-fails b (every-media-report f) m =
     f (made m one-unit .device) (made m one-unit .handed) (damage 0 (omega arith)) .not-success (media-code m (made m one-unit) (damage 0 (omega arith)))
 refuses-one-fails b (every-line-test f) m = f (made m one-unit .device) (made m one-unit .handed) first-line .not-success (line-code m (made m one-unit) first-line)
+refuses-one-fails b (every-pool-command opcode k f) m =
+    let w = pool-succeeds opcode k in
+    let a = pool-asks opcode (w .payload) (w .small) (w .lent) in
+    f (made m one-unit .device) (made m one-unit .handed) a refl .not-success (pool-code m (made m one-unit) a ∙ w .taken)
 
 -- A build that refuses all does not meet the contracts.
 pub refuses-all-fails : (b : Build) → RefusesAll b → Meets b → ⊥
@@ -284,7 +343,11 @@ differ {x} {y} d e = none-of (sym d ∙ eq-eqb x y e)
 abbrev written : DeviceState → ℕ → List ℕ → List ℕ
 written s opcode payload = take (length (outcome s opcode payload 0 zero-area 2048 .reply)) (splice 0 (outcome s opcode payload 0 zero-area 2048 .reply) buffer)
 
--- two devices of the build that answer a command of the opcode with replies that differ at a place
+-- so of the second mailbox
+abbrev pool-written : DeviceState → ℕ → List ℕ → List ℕ
+pool-written s opcode payload = take (length (pool-answer s opcode payload 0 2048 .bytes)) (splice 0 (pool-answer s opcode payload 0 2048 .bytes) buffer)
+
+-- two devices of the build that answer a command of the opcode, to either mailbox, with replies that differ at a place
 record Told (b : Build) (opcode : ℕ) : Type 0 where
   payload : List ℕ
   small : ltb opcode 65536 ≡ true
@@ -297,17 +360,20 @@ record Told (b : Build) (opcode : ℕ) : Type 0 where
   right-code : outcome right-view opcode payload 0 zero-area 2048 .code ≡ 0
   place : ℕ
   apart : eqb (getD (written left-view opcode payload) place 0) (getD (written right-view opcode payload) place 0) ≡ false
+  pool-left : pool-answer left-view opcode payload 0 2048 .code ≡ 0
+  pool-right : pool-answer right-view opcode payload 0 2048 .code ≡ 0
+  pool-apart : eqb (getD (pool-written left-view opcode payload) place 0) (getD (pool-written right-view opcode payload) place 0) ≡ false
 
 -- the witnesses, each against a new device of one unit: an event in log 0 (0100h of log 0, record count at 20); log 0 enabled (0102h); the clock set to 1
 -- (0300h); a device of two units (4000h, total units at 16); damage at line 0 (4300h of that line, record count at 10)
 tells : (b : Build) → Meets b → (n : ℕ) → among telling n ≡ true → Told b n
 unfolding rules
 tells b m n =
-    one-of (Told b) n 0x0100 _ (against 0x0100 (0 ∷ []) refl refl refl (event-reported m new an-event) refl 20 refl)
-    (one-of (Told b) n 0x0102 _ (against 0x0102 [] refl refl refl (commanded m new (asks 0x0103 (1 ∷ replicate 3 0) refl refl)) refl 0 refl)
-    (one-of (Told b) n 0x0300 _ (against 0x0300 [] refl refl refl (commanded m new (asks 0x0301 (1 ∷ replicate 7 0) refl refl)) refl 0 refl)
-    (one-of (Told b) n 0x4000 _ (against 0x4000 [] refl refl refl (made m two-units) refl 16 refl)
-    (one-of (Told b) n 0x4300 _ (against 0x4300 (replicate 8 0 ++ (1 ∷ replicate 7 0)) refl refl refl (media-reported m new (damage 0 (omega arith))) refl 10 refl)
+    one-of (Told b) n 0x0100 _ (against 0x0100 (0 ∷ []) refl refl refl (event-reported m new an-event) refl 20 refl refl refl refl)
+    (one-of (Told b) n 0x0102 _ (against 0x0102 [] refl refl refl (commanded m new (asks 0x0103 (1 ∷ replicate 3 0) refl refl)) refl 0 refl refl refl refl)
+    (one-of (Told b) n 0x0300 _ (against 0x0300 [] refl refl refl (commanded m new (asks 0x0301 (1 ∷ replicate 7 0) refl refl)) refl 0 refl refl refl refl)
+    (one-of (Told b) n 0x4000 _ (against 0x4000 [] refl refl refl (made m two-units) refl 16 refl refl refl refl)
+    (one-of (Told b) n 0x4300 _ (against 0x4300 (replicate 8 0 ++ (1 ∷ replicate 7 0)) refl refl refl (media-reported m new (damage 0 (omega arith))) refl 10 refl refl refl refl)
     none-of))))
   where
     new : At b (Device.make 1 0 .next)
@@ -315,8 +381,10 @@ tells b m n =
 
     against : (opcode : ℕ) (payload : List ℕ) → ltb opcode 65536 ≡ true → short payload ≡ true → outcome (Device.make 1 0 .next) opcode payload 0 zero-area 2048 .code ≡ 0
         → {s : DeviceState} → At b s → outcome s opcode payload 0 zero-area 2048 .code ≡ 0
-        → (place : ℕ) → eqb (getD (written (Device.make 1 0 .next) opcode payload) place 0) (getD (written s opcode payload) place 0) ≡ false → Told b opcode
-    against opcode payload small lent c {s} r d place apart =
+        → (place : ℕ) → eqb (getD (written (Device.make 1 0 .next) opcode payload) place 0) (getD (written s opcode payload) place 0) ≡ false
+        → pool-answer (Device.make 1 0 .next) opcode payload 0 2048 .code ≡ 0 → pool-answer s opcode payload 0 2048 .code ≡ 0
+        → eqb (getD (pool-written (Device.make 1 0 .next) opcode payload) place 0) (getD (pool-written s opcode payload) place 0) ≡ false → Told b opcode
+    against opcode payload small lent c {s} r d place apart x y z =
         record {
           payload = payload;
           small = small;
@@ -329,6 +397,9 @@ tells b m n =
           right-code = d;
           place = place;
           apart = apart;
+          pool-left = x;
+          pool-right = y;
+          pool-apart = z;
         }
 
 -- A build in which one kind of call, be it only the commands of one opcode that tell of the device, answers the same whatever device is asked does not meet
@@ -369,6 +440,11 @@ tells-nothing-fails b (of-damage-total f) m =
     let new = made m one-unit in
     let damaged = media-reported m new (damage 0 (omega arith)) in
     differ {x = 0} {y = 1} refl (sym (total-given m new) ∙ f (new .device) (damaged .device) (new .handed) (damaged .handed) ∙ total-given m damaged)
+tells-nothing-fails b (of-pool-command opcode k f) m =
+    let w = tells b m opcode k in
+    let a = pool-asks opcode (w .payload) (w .small) (w .lent) in
+    let same = f (w .left .device) (w .right .device) (w .left .handed) (w .right .handed) a refl (pool-code m (w .left) a ∙ w .pool-left) (pool-code m (w .right) a ∙ w .pool-right) in
+    differ (w .pool-apart) (ap (λ (bytes : List ℕ). getD bytes (w .place) 0) (sym (pool-reply m (w .left) a) ∙ same ∙ pool-reply m (w .right) a))
 
 -- A build with a fixed reply does not meet the contracts.
 pub fixed-reply-fails : (b : Build) → FixedReply b → Meets b → ⊥

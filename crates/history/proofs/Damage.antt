@@ -13,7 +13,7 @@ use Rattle.poison.specs.Paper.{Paper, blank-paper, paper-report, paper-inject, 
 use Rattle.mailbox.specs.State.{DeviceState}
 use Rattle.list_commands.specs.PoisonCommands.{line-of}
 use Rattle.mailbox.specs.DeviceCalls as Device
-use Rattle.history.specs.Calls.{Call, command, event-report, media-report, line-test, event-status, damage-total, step, after}
+use Rattle.history.specs.Calls.{Call, command, event-report, media-report, line-test, event-status, damage-total, pool-command, step, after}
 use Rattle.history.specs.Paper.{write-command, write, history}
 use Rattle.history.specs.Demand3.{Blocks}
 use Rattle.history.specs.Damage.{reports, clears, NotCleared}
@@ -52,6 +52,7 @@ set-reported p (media-report time address lines kind) code k e =
 set-reported p (line-test address) code k e = absurd (false≢true e)
 set-reported p event-status code k e = absurd (false≢true e)
 set-reported p damage-total code k e = absurd (false≢true e)
+set-reported p (pool-command opcode payload time room) code k e = absurd (false≢true e)
 
 -- ---- a call that does not clear it leaves it there
 pub set-kept : (p : Paper) (c : Call) (code k : ℕ) → p .set k ≡ true → clears c code k ≡ false → write p c code .set k ≡ true
@@ -76,6 +77,7 @@ set-kept p (media-report time address lines kind) code k h e = done (eqb code 0)
 set-kept p (line-test address) code k h e = h
 set-kept p event-status code k h e = h
 set-kept p damage-total code k h e = h
+set-kept p (pool-command opcode payload time room) code k h e = h
 
 set-kept-by-all : (d : DeviceState) (p : Paper) (cs : List Call) (k : ℕ) → p .set k ≡ true → NotCleared d cs k → history d p cs .paper .set k ≡ true
 set-kept-by-all d p [] k h n = h

@@ -3,8 +3,8 @@ use mathlib.Core.Path.{_≡_, refl, _∙_}
 use Rattle.wire.specs.Returns.{Refused}
 use Rattle.settings.specs.Media.{due}
 use Rattle.mailbox.specs.State.{DeviceState}
-use Rattle.mailbox.proofs.Laws.{refusal, event-refusal, media-refusal, line-refusal, ended-none}
-use Rattle.history.specs.Calls.{Call, command, event-report, media-report, line-test, event-status, damage-total, step}
+use Rattle.mailbox.proofs.Laws.{refusal, event-refusal, media-refusal, line-refusal, pool-refusal, ended-none}
+use Rattle.history.specs.Calls.{Call, command, event-report, media-report, line-test, event-status, damage-total, pool-command, step}
 use Rattle.history.specs.Refusals.{GivesNothing, found-by, NothingDue}
 
 -- Whatever the call and its arguments: where it is refused, the device that follows is the one that the call found.
@@ -16,6 +16,7 @@ refused-step d (media-report time address lines kind) r = media-refusal d time a
 refused-step d (line-test address) r = refl
 refused-step d event-status r = refl
 refused-step d damage-total r = refl
+refused-step d (pool-command opcode payload time room) r = refl
 
 -- Where no Sanitize is due at its time, that is the one before.
 pub found-same : (d : DeviceState) (c : Call) → NothingDue d c → found-by d c ≡ d
@@ -25,6 +26,7 @@ found-same d (media-report time address lines kind) e = ended-none d time e
 found-same d (line-test address) e = refl
 found-same d event-status e = refl
 found-same d damage-total e = refl
+found-same d (pool-command opcode payload time room) e = refl
 
 pub refused-same : (d : DeviceState) (c : Call) → NothingDue d c → Refused (step d c .code) → step d c .next ≡ d
 refused-same d c n r = refused-step d c r ∙ found-same d c n
@@ -38,3 +40,4 @@ refused-gives-nothing d (media-report time address lines kind) r = let n = media
 refused-gives-nothing d (line-test address) r = line-refusal d address r
 refused-gives-nothing d event-status r = r .not-success refl
 refused-gives-nothing d damage-total r = r .not-success refl
+refused-gives-nothing d (pool-command opcode payload time room) r = pool-refusal d opcode payload time room (r .not-success)

@@ -18,7 +18,7 @@ use Rattle.mailbox.specs.Ending.{ended}
 use Rattle.mailbox.specs.Outcome.{Outcome}
 use Rattle.mailbox.specs.DeviceCalls as Device
 use Rattle.mailbox.proofs.Laws.{sanitize-started, disabled-not-clean, due-from, not-due-before, ended-due, end-empties}
-use Rattle.history.specs.Calls.{Call, command, event-report, media-report, line-test, event-status, damage-total, step, after}
+use Rattle.history.specs.Calls.{Call, command, event-report, media-report, line-test, event-status, damage-total, pool-command, step, after}
 use Rattle.history.specs.Ran.{Steps}
 use Rattle.history.specs.Refusals.{NothingDue}
 use Rattle.history.specs.Sanitizing.{Before, AllBefore, From, NoneStarts, FindsEnded, Led, none, more}
@@ -38,6 +38,7 @@ module _ (units time : ℕ) where
   early d is (line-test address) h = tt
   early d is event-status h = tt
   early d is damage-total h = tt
+  early d is (pool-command opcode payload time room) h = tt
 
   over : (d : DeviceState) → d .media ≡ sanitize units time → (t : ℕ) → End ≤ t → due (d .media) t ≡ true
   over d is t h = ap (λ (m : MediaState). due m t) is ∙ due-from units time t h
@@ -65,6 +66,7 @@ module _ (units time : ℕ) where
   late d is (line-test address) h = absurd h
   late d is event-status h = absurd h
   late d is damage-total h = absurd h
+  late d is (pool-command opcode payload time room) h = absurd h
 
 -- ---- a device whose media is enabled: nothing is due, and no call but one that is answered 0001h changes that
 idle : (d : DeviceState) → d .media ≡ enabled → (c : Call) → NothingDue d c
@@ -75,6 +77,7 @@ idle d is (media-report t address lines kind) = ap (λ (m : MediaState). due m t
 idle d is (line-test address) = tt
 idle d is event-status = tt
 idle d is damage-total = tt
+idle d is (pool-command opcode payload time room) = tt
 
 enabled-lasts : (d : DeviceState) → d .media ≡ enabled → (cs : List Call) → NoneStarts d cs → after d cs .media ≡ enabled
 enabled-lasts d is [] n = is

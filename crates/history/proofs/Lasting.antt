@@ -37,7 +37,7 @@ use Rattle.mailbox.specs.Mailbox.{inject, answer, outcome}
 use Rattle.mailbox.specs.DeviceCalls as Device
 use Rattle.mailbox.proofs.Laws.{Moved, nothing, one-log, settings, the-clock, list-and-log, the-list, the-media, answer-moves, line-inside, media-zero, five-settings}
 use Rattle.wire.proofs.Laws.{and-parts, either}
-use Rattle.history.specs.Calls.{Call, command, event-report, media-report, line-test, event-status, damage-total, step, after}
+use Rattle.history.specs.Calls.{Call, command, event-report, media-report, line-test, event-status, damage-total, pool-command, step, after}
 
 -- ---- what lasts
 -- a property of one log that a new log has, and that a report of 128 bytes at a time of 64 bits, a clear and the end of a Sanitize keep
@@ -305,6 +305,7 @@ module _ {P : LogState → Type 0} (lasting : Lasting P) where
     call-kept (line-test address) = itself-kept s h
     call-kept event-status = itself-kept s h
     call-kept damage-total = itself-kept s h
+    call-kept (pool-command opcode payload time room) = itself-kept s h
 
     -- of each, what it holds
     pub command-leaves : (op : ℕ) (p : List ℕ) (time : ℕ) (area : List ℕ) (room : ℕ) → Holding P (outcome s op p time area room .next)

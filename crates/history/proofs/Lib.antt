@@ -18,4 +18,5 @@ pub mod Interrupts
 pub mod Reserved
 pub mod Labels
 pub mod Sanitizing
+pub mod Silence
 pub mod Disabled

@@ -9,19 +9,22 @@ use Rattle.poison.specs.Paper.{Paper, blank-paper}
 use Rattle.mailbox.specs.State.{state-of, lines-of}
 use Rattle.mailbox.specs.declared.device.Device.{Device}
 use Rattle.mailbox.specs.Mailbox.{outcome}
+use Rattle.mailbox.specs.Pool.{pool-answer}
+use Rattle.settings.specs.Contracts.{Replied}
 use Rattle.mailbox.specs.DeviceCalls as Device
 use Rattle.mailbox.specs.Contracts.{Answered, Makes, EventDone, MediaDone}
 use Rattle.mailbox.specs.Ending.{AfterEnding}
 use Rattle.mailbox.proofs.Laws.{carries-numbered, disabled-not-clean}
 use Rattle.embed.specs.declared.Done.{Done}
+use Rattle.embed.specs.declared.PoolDone.{PoolDone}
 use Rattle.embed.specs.declared.Event.{Event}
 use Rattle.embed.specs.declared.Media.{Media}
 use Rattle.embed.specs.declared.Line.{Line}
-use Rattle.embed.specs.Left.{made, answered, event-told, media-told, LineTold}
-use Rattle.history.specs.Calls.{Call, command, event-report, media-report, line-test, step}
+use Rattle.embed.specs.Left.{made, answered, pool-told, event-told, media-told, LineTold}
+use Rattle.history.specs.Calls.{Call, command, event-report, media-report, line-test, pool-command, step}
 use Rattle.history.specs.Damage.{reports}
 use Rattle.history.specs.Ran.{Steps, Ran, Spared}
-use Rattle.history.proofs.Ran.{command-steps, event-steps, media-steps, make-starts, code-demand-3, reported-still}
+use Rattle.history.proofs.Ran.{command-steps, event-steps, media-steps, pool-steps, make-starts, code-demand-3, reported-still}
 
 -- ---- each call through the pointer is a step: device d lies behind it before the call, device e after it (event status and damage total: `status-steps`,
 -- `total-steps` of Ran, whose contracts are the methods' own)
@@ -43,6 +46,11 @@ linked-media d e time address lines kind r a = media-steps d time address lines 
 pub linked-line : (d : Device) (address : ℕ) (r : Line) → LineTold (Device.line-test (state-of d) address) r → Steps d d (line-test address) (r .code)
 unfolding step
 linked-line d address r a = record { number = a .code; next = refl }
+
+-- a command of the second mailbox, which is handed the device to be read (document 02, W-208)
+pub linked-pool : (d : Device) (opcode : ℕ) (payload : List ℕ) (time : ℕ) (before after : List ℕ) (r : PoolDone) → Replied (pool-answer (state-of d) opcode payload time (length before)) (pool-told r) before after
+    → Steps d d (pool-command opcode payload time (length before)) (r .code)
+linked-pool d opcode payload time before after r a = pool-steps d opcode payload time before after (pool-told r) a
 
 -- ---- the vector that a C caller is handed is the number that the definitions give (document 02, W-204)
 pub linked-command-vector : (d e : Device) (opcode : ℕ) (payload : List ℕ) (time : ℕ) (area before after : List ℕ) (r : Done)

@@ -23,9 +23,12 @@ use Rattle.mailbox.specs.declared.device_calls.EventAnswer.{EventAnswer}
 use Rattle.mailbox.specs.declared.device_calls.MediaAnswer.{MediaAnswer}
 use Rattle.mailbox.specs.declared.device_calls.LineAnswer.{LineAnswer}
 use Rattle.mailbox.specs.Mailbox.{outcome}
+use Rattle.mailbox.specs.Pool.{pool-answer}
+use Rattle.settings.specs.Contracts.{Replied}
+use Rattle.wire.specs.declared.done.Done.{Done}
 use Rattle.mailbox.specs.DeviceCalls as Device
 use Rattle.mailbox.specs.Contracts.{Answered, Makes, EventDone, MediaDone, LineDone, StatusGiven}
-use Rattle.history.specs.Calls.{Call, command, event-report, media-report, line-test, event-status, damage-total, step}
+use Rattle.history.specs.Calls.{Call, command, event-report, media-report, line-test, event-status, damage-total, pool-command, step}
 use Rattle.history.specs.Paper.{write, history}
 use Rattle.history.specs.Demand3.{Demand3}
 use Rattle.history.specs.Damage.{reports}
@@ -47,7 +50,7 @@ pub media-steps : (d : Device) (time address lines kind : ℕ) (r : MediaAnswer)
 unfolding step
 media-steps d time address lines kind r a = record { number = a .done .code; next = a .done .next }
 
--- line test, event status and damage total hand back no device: the same one goes on
+-- line test, event status, damage total and the second mailbox's commands (document 02, W-208) hand back no device: the same one goes on
 pub line-steps : (d : Device) (address : ℕ) (r : LineAnswer) → LineDone (Device.line-test (state-of d) address) r → Steps d d (line-test address) (r .code)
 unfolding step
 line-steps d address r a = record { number = a .code; next = refl }
@@ -59,6 +62,11 @@ status-steps d r a = record { number = refl; next = refl }
 pub total-steps : (d : Device) (total : ℕ) → total ≡ Device.damage-total (state-of d) → Steps d d damage-total 0
 unfolding step
 total-steps d total a = record { number = refl; next = refl }
+
+pub pool-steps : (d : Device) (opcode : ℕ) (payload : List ℕ) (time : ℕ) (before after : List ℕ) (r : Done) → Replied (pool-answer (state-of d) opcode payload time (length before)) r before after
+    → Steps d d (pool-command opcode payload time (length before)) (r .code)
+unfolding step
+pool-steps d opcode payload time before after r a = record { number = a .code; next = refl }
 
 pub make-starts : (v p : ℕ) (m : Made) → Makes (Device.make v p) m → Ran v p [] (m .device) blank-paper
 make-starts v p m a = made [] (m .device) blank-paper refl (a .next) refl

@@ -17,14 +17,15 @@ use Rattle.events.proofs.Laws.{Whole, whole-new, whole-emptied, whole-reported,
 use Rattle.mailbox.specs.State.{lines-of, state-of}
 use Rattle.mailbox.specs.Outcome.{Outcome}
 use Rattle.mailbox.specs.Mailbox.{outcome}
+use Rattle.mailbox.specs.Pool.{pool-answer}
 use Rattle.mailbox.specs.DeviceCalls.{make}
 use Rattle.events.specs.Emptied.{emptied}
 use Rattle.mailbox.specs.Ending.{AfterEnding}
 use Rattle.mailbox.specs.Contracts.{Answered}
 use Rattle.mailbox.specs.declared.device.Device.{Device}
 use Rattle.mailbox.specs.declared.device.Answer.{Answer}
-use Rattle.host_replies.specs.DeviceReplies.{reading-code, PlainLog, Plain}
-use Rattle.host_replies.proofs.Laws.{accepted, recordable}
+use Rattle.host_replies.specs.DeviceReplies.{reading-told, reading-code, PlainLog, Plain}
+use Rattle.host_replies.proofs.Laws.{accepted, pool-accepted, recordable}
 use Rattle.history.specs.Calls.{Call}
 use Rattle.history.specs.Drain.{reached}
 use Rattle.history.specs.Ran.{Ran, reply-in}
@@ -99,6 +100,11 @@ plain-reached v p calls =
 pub replies-accepted : (v p : ℕ) (calls : List Call) (op : ℕ) → (op ≡ 0x4102 → ⊥) → (op ≡ 0x4103 → ⊥) → (payload : List ℕ) (time : ℕ) (area : List ℕ) (room : ℕ) → outcome (reached v p calls) op payload time area room .code ≡ 0
     → reading-code op (field payload 20 4) (outcome (reached v p calls) op payload time area room .reply) ≡ 0
 replies-accepted v p calls = accepted (reached v p calls) (plain-reached v p calls)
+
+-- So of the second mailbox (document 02, W-208), to any opcode.
+pub pool-replies-accepted : (v p : ℕ) (calls : List Call) (op : ℕ) (payload : List ℕ) (time room : ℕ) → pool-answer (reached v p calls) op payload time room .code ≡ 0
+    → reading-told op (field payload 20 4) (pool-answer (reached v p calls) op payload time room .bytes) ≡ 0
+pool-replies-accepted v p calls = pool-accepted (reached v p calls) (plain-reached v p calls)
 
 -- ---- the same of the code
 -- The view of a device that a run of the code leads to has those widths.

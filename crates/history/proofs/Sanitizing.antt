@@ -23,7 +23,7 @@ use Rattle.mailbox.specs.EventCommands.{clear-event-records}
 use Rattle.mailbox.specs.Mailbox.{inject, answer}
 use Rattle.mailbox.specs.DeviceCalls as Device
 use Rattle.mailbox.proofs.Laws.{Moved, nothing, one-log, settings, the-clock, list-and-log, the-list, the-media, answer-moves, injection-list, logs-told, media-after}
-use Rattle.history.specs.Calls.{Call, command, event-report, media-report, line-test, event-status, damage-total, step, after}
+use Rattle.history.specs.Calls.{Call, command, event-report, media-report, line-test, event-status, damage-total, pool-command, step, after}
 use Rattle.history.specs.Cases.{given-of, stated-of}
 use Rattle.history.specs.Interrupts.{enabled-unit}
 use Rattle.history.specs.Refusals.{found-by, NothingDue}
@@ -89,6 +89,7 @@ module _ (P : LogState → LogState → Type 0) (itself : (s : LogState) → P s
   call-each d (line-test address) unless = each-same d d refl
   call-each d event-status unless = each-same d d refl
   call-each d damage-total unless = each-same d d refl
+  call-each d (pool-command opcode payload time room) unless = each-same d d refl
 
 -- ---- in words
 -- No call but Clear Event Records takes a record from a log, where no Sanitize is due at its time: every record stays in its place.
@@ -113,6 +114,7 @@ next-goes-on d c k =
     found d (line-test address) = refl
     found d event-status = refl
     found d damage-total = refl
+    found d (pool-command opcode payload time room) = refl
 
 -- A call leaves media as it finds it; or it is answered 0001h, and found media enabled.
 pub call-media : (d : DeviceState) (c : Call) → (step d c .next .media ≡ found-by d c .media) ⊎ ((step d c .code ≡ started) × (found-by d c .media .disabled ≡ false))
@@ -124,6 +126,7 @@ call-media d (media-report time address lines kind) =
 call-media d (line-test address) = inl refl
 call-media d event-status = inl refl
 call-media d damage-total = inl refl
+call-media d (pool-command opcode payload time room) = inl refl
 
 -- Media that is disabled when a call comes, and not due to be enabled by it, is left as it was.
 pub disabled-stays : (d : DeviceState) (c : Call) → NothingDue d c → d .media .disabled ≡ true → step d c .next .media ≡ d .media

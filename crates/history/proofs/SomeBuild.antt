@@ -22,6 +22,7 @@ use Rattle.mailbox.specs.Ending.{ended, Ends}
 use Rattle.mailbox.specs.State.{DeviceState, ValidDevice, lines-of, state-of}
 use Rattle.list_commands.specs.PoisonCommands.{line-of, line-code}
 use Rattle.mailbox.specs.Mailbox.{outcome, area-after}
+use Rattle.mailbox.specs.Pool.{pool-answer}
 use Rattle.mailbox.specs.DeviceCalls as Device
 use Rattle.settings.specs.Vector.{numbered}
 use Rattle.mailbox.specs.declared.device.Device.{Device}
@@ -111,6 +112,9 @@ by-definition =
           let o = Device.event-status (state-of d) in
           record { bits = o .bits; waiting = o .waiting; highest = o .highest };
       damage-total = λ d. Device.damage-total (state-of d);
+      pool-command = λ d a.
+          let o = pool-answer (state-of d) (a .opcode) (a .payload) (a .time) (length (a .before)) in
+          record { answer = record { code = o .code; length = length (o .bytes) }; after = splice 0 (o .bytes) (a .before) };
     }
 
 -- its number and its type are the definition's
@@ -189,6 +193,7 @@ some-build-meets = (
     line-test = λ d _ v a. record { code = refl; number = line-done (state-of d) (a .address) .0; kind = line-done (state-of d) (a .address) .1 };
     event-status = λ d _ v. record { bits = refl; waiting = refl; highest = refl };
     damage-total = λ d _ v. refl;
+    pool-command = λ d _ v a. record { code = refl; size = refl; bytes = refl };
   },
 )
 
@@ -204,6 +209,7 @@ refuser =
       line-test = λ d a. record { code = 2; answer = Unknown };
       event-status = by-definition .event-status;
       damage-total = by-definition .damage-total;
+      pool-command = λ d a. record { answer = record { code = 3; length = 0 }; after = a .before };
     }
 
 -- Some build refuses all.
@@ -216,6 +222,7 @@ some-build-refuses-all = (
     event-report = λ d h a. record { not-success = λ e. omega arith; not-started = λ e. omega arith };
     media-report = λ d h a. record { not-success = λ e. omega arith; not-started = λ e. omega arith };
     line-test = λ d h a. record { not-success = λ e. omega arith; not-started = λ e. omega arith };
+    pool-command = λ d h a. record { not-success = λ e. omega arith; not-started = λ e. omega arith };
   },
 )
 
@@ -230,6 +237,7 @@ idle =
       line-test = by-definition .line-test;
       event-status = by-definition .event-status;
       damage-total = by-definition .damage-total;
+      pool-command = λ d a. record { answer = record { code = 0; length = 0 }; after = a .before };
     }
 
 -- Some build has a fixed reply.
@@ -256,6 +264,7 @@ first-only =
       line-test = by-definition .line-test;
       event-status = by-definition .event-status;
       damage-total = by-definition .damage-total;
+      pool-command = by-definition .pool-command;
     }
 
 -- a list that is not empty has one

@@ -23,7 +23,7 @@ use Rattle.list_commands.specs.PoisonCommands.{line-of, line-code, inject-poiso
 use Rattle.mailbox.specs.Mailbox.{run-command, answer}
 use Rattle.mailbox.specs.DeviceCalls as Device
 use Rattle.mailbox.proofs.Laws.{Moved, nothing, one-log, settings, the-clock, list-and-log, the-list, the-media, run-moves, line-inside, media-zero, injection-list}
-use Rattle.history.specs.Calls.{Call, command, event-report, media-report, line-test, event-status, damage-total, step}
+use Rattle.history.specs.Calls.{Call, command, event-report, media-report, line-test, event-status, damage-total, pool-command, step}
 use Rattle.history.specs.Paper.{write-command, write}
 
 -- what holds of a device of n lines and a paper
@@ -194,6 +194,7 @@ module _ (n : ℕ) (d : DeviceState) (p : Paper) (h : Holds n d p) where
   call-moves (line-test address) = stays n d p h
   call-moves event-status = stays n d p h
   call-moves damage-total = stays n d p h
+  call-moves (pool-command opcode payload time room) = stays n d p h
 
   pub call-holds : (c : Call) → Holds n (step d c .next) (write p c (step d c .code))
   call-holds c = let m = call-moves c in record { lines = m .lines; consistent = m .kept .consistent }

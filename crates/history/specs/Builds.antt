@@ -1,5 +1,5 @@
 -- The four useless builds of document 01, "Promises and how they are tried", as faults of ANY build: functions from the code's own devices and arguments to
--- the code's own answers. `Meets` is the contracts of the public functions of crate `mailbox` (src/device.rt, src/device_calls.rt), equation by equation, and
+-- the code's own answers. `Meets` is the contracts of the public functions of crate `mailbox` (src/device.rt, src/device_calls.rt, src/pool.rt), equation by equation, and
 -- asks no more than they give, so that the functions of `mailbox` meet it by their contracts. proofs/Builds.antt: no build with such a fault meets it;
 -- proofs/SomeBuild.antt: some build meets it.
 use Prim.Native.Nat.{ℕ, _^_, _<_}
@@ -7,7 +7,7 @@ use mathlib.Core.Path.{_≡_}
 use mathlib.Core.Bool.{Bool, true, false, _&&_, _||_}
 use mathlib.Core.List.{List, [], _∷_}
 use lib.Dec.{ltb, eqb}
-use lib.ListN.{length}
+use lib.ListN.{length, take}
 use Rattle.wire.specs.Returns.{Refused}
 use Rattle.events.specs.Log.{log-at}
 use Rattle.events.specs.declared.status.Status.{Status}
@@ -18,7 +18,11 @@ use Rattle.mailbox.specs.declared.device.Made.{Made}
 use Rattle.mailbox.specs.declared.device_calls.EventAnswer.{EventAnswer}
 use Rattle.mailbox.specs.declared.device_calls.MediaAnswer.{MediaAnswer}
 use Rattle.mailbox.specs.declared.device_calls.LineAnswer.{LineAnswer}
-use Rattle.commands.specs.Commands.{commands, known}
+use Rattle.commands.specs.Commands.{commands, rows-of, known}
+use Rattle.commands.specs.declared.mailboxes.Mailbox.the-variants.{Pool}
+use Rattle.wire.specs.declared.done.Done.{Done}
+use Rattle.settings.specs.Contracts.{Replied}
+use Rattle.mailbox.specs.Pool.{pool-answer}
 use Rattle.mailbox.specs.Mailbox.{outcome, area-after}
 use Rattle.mailbox.specs.Ending.{AfterEnding}
 use Rattle.mailbox.specs.LineStatus.{status-number}
@@ -57,6 +61,17 @@ pub record CommandAsked : Type 0 where
   pub area-slice : Slice area
   pub before-slice : Slice before
 
+-- pool_command(opcode: u16, payload: &[u8], time: u64, reply: &mut [u8]), the second mailbox's (document 02, W-208)
+pub record PoolAsked : Type 0 where
+  pub opcode : ℕ
+  pub payload : List ℕ
+  pub time : ℕ
+  pub before : List ℕ
+  pub opcode-u16 : opcode < 2 ^ 16
+  pub payload-slice : Slice payload
+  pub time-u64 : time < 2 ^ 64
+  pub before-slice : Slice before
+
 -- event_report(time: u64, log: u8, event: &[u8])
 pub record EventAsked : Type 0 where
   pub time : ℕ
@@ -89,6 +104,11 @@ pub record CommandGiven : Type 0 where
   pub after : List ℕ
   pub left : List ℕ
 
+-- what a command of the second mailbox gives: no device
+pub record PoolGiven : Type 0 where
+  pub answer : Done
+  pub after : List ℕ
+
 -- a build: any functions in place of those of crate `mailbox`, over the same types
 pub record Build : Type 0 where
   pub make : MakeAsked → Made
@@ -98,6 +118,7 @@ pub record Build : Type 0 where
   pub line-test : Device → LineAsked → LineAnswer
   pub event-status : Device → Status
   pub damage-total : Device → ℕ
+  pub pool-command : Device → PoolAsked → PoolGiven
 
 -- a device that the build itself handed out, at making or after a call: "A device made here and changed only by these calls is the one premise allowed".
 -- (The fields of such a device have the sizes that their types name, which `ValidDevice` does not say again.)
@@ -121,6 +142,8 @@ pub record Meets (b : Build) : Type 0 where
   pub line-test : (d : Device) → Handed b d → ValidDevice d → (a : LineAsked) → LineDone (Device.line-test (state-of d) (a .address)) (b .line-test d a)
   pub event-status : (d : Device) → Handed b d → ValidDevice d → StatusGiven (Device.event-status (state-of d)) (b .event-status d)
   pub damage-total : (d : Device) → Handed b d → ValidDevice d → b .damage-total d ≡ Device.damage-total (state-of d)
+  pub pool-command : (d : Device) → Handed b d → ValidDevice d → (a : PoolAsked)
+      → Replied (pool-answer (state-of d) (a .opcode) (a .payload) (a .time) (length (a .before))) (b .pool-command d a .answer) (a .before) (b .pool-command d a .after)
 
 -- ---- the faults
 -- "one that refuses all": every call is answered with a refusal, a number other than 0000h and 0001h
@@ -130,6 +153,7 @@ pub record RefusesAll (b : Build) : Type 0 where
   pub event-report : (d : Device) → Handed b d → (a : EventAsked) → Refused (b .event-report d a .code)
   pub media-report : (d : Device) → Handed b d → (a : MediaAsked) → Refused (b .media-report d a .code)
   pub line-test : (d : Device) → Handed b d → (a : LineAsked) → Refused (b .line-test d a .code)
+  pub pool-command : (d : Device) → Handed b d → (a : PoolAsked) → Refused (b .pool-command d a .answer .code)
 
 -- less of a fault: it refuses every call of one kind, be it only every command of one known opcode
 pub data RefusesOne (b : Build) : Type 0 where
@@ -139,10 +163,16 @@ pub data RefusesOne (b : Build) : Type 0 where
   every-event-report : ((d : Device) → Handed b d → (a : EventAsked) → Refused (b .event-report d a .code)) → RefusesOne b
   every-media-report : ((d : Device) → Handed b d → (a : MediaAsked) → Refused (b .media-report d a .code)) → RefusesOne b
   every-line-test : ((d : Device) → Handed b d → (a : LineAsked) → Refused (b .line-test d a .code)) → RefusesOne b
+  every-pool-command : (opcode : ℕ) → known (rows-of Pool) opcode ≡ true
+      → ((d : Device) → Handed b d → (a : PoolAsked) → a .opcode ≡ opcode → Refused (b .pool-command d a .answer .code)) → RefusesOne b
 
 -- the reply of a command: as many bytes of the buffer after it as the answer's length says
 abbrev pub reply-of : CommandGiven → List ℕ
 reply-of g = reply-in (g .after) (g .answer)
+
+-- so of the second mailbox
+abbrev pub pool-reply-of : PoolGiven → List ℕ
+pool-reply-of g = take (g .answer .length) (g .after)
 
 -- "one with a fixed reply": whatever is asked, of whatever device, a command that is answered 0000h replies the same bytes
 pub record FixedReply (b : Build) : Type 0 where
@@ -154,7 +184,7 @@ abbrev pub among : List ℕ → ℕ → Bool
 among [] n = false
 among (x ∷ xs) n = eqb n x || among xs n
 
--- the commands whose reply tells of the device: Get Event Records, Get Event Interrupt Policy, Get Timestamp, Identify, Get Poison List
+-- the commands whose reply, of either mailbox, tells of the device: Get Event Records, Get Event Interrupt Policy, Get Timestamp, Identify, Get Poison List
 abbrev pub telling : List ℕ
 telling = 0x0100 ∷ 0x0102 ∷ 0x0300 ∷ 0x4000 ∷ 0x4300 ∷ []
 
@@ -172,6 +202,9 @@ pub data TellsNothing (b : Build) : Type 0 where
   of-line-test : ((d e : Device) → Handed b d → Handed b e → (a : LineAsked) → status-number (b .line-test d a .answer) ≡ status-number (b .line-test e a .answer)) → TellsNothing b
   of-event-status : ((d e : Device) → Handed b d → Handed b e → b .event-status d .bits ≡ b .event-status e .bits) → TellsNothing b
   of-damage-total : ((d e : Device) → Handed b d → Handed b e → b .damage-total d ≡ b .damage-total e) → TellsNothing b
+  of-pool-command : (opcode : ℕ) → among telling opcode ≡ true
+      → ((d e : Device) → Handed b d → Handed b e → (a : PoolAsked) → a .opcode ≡ opcode → b .pool-command d a .answer .code ≡ 0 → b .pool-command e a .answer .code ≡ 0
+      → pool-reply-of (b .pool-command d a) ≡ pool-reply-of (b .pool-command e a)) → TellsNothing b
 
 -- "one that changes nothing": every device handed back is the one given
 pub record ChangesNothing (b : Build) : Type 0 where

@@ -7,7 +7,7 @@ use lib.Dec.{eqb}
 use Rattle.wire.specs.Wire.{field}
 use Rattle.poison.specs.Runs.{run, in-run}
 use Rattle.mailbox.specs.State.{DeviceState}
-use Rattle.history.specs.Calls.{Call, command, event-report, media-report, line-test, event-status, damage-total, step}
+use Rattle.history.specs.Calls.{Call, command, event-report, media-report, line-test, event-status, damage-total, pool-command, step}
 use Rattle.list_commands.specs.PoisonCommands.{line-of}
 
 -- whether a call, answered with a number, reports line k damaged: an accepted media report over it, or an Inject Poison of it answered Success
@@ -18,6 +18,7 @@ reports (media-report time address lines kind) code k = eqb code 0 && in-run (ru
 reports (line-test address) code k = false
 reports event-status code k = false
 reports damage-total code k = false
+reports (pool-command opcode payload time room) code k = false
 
 -- whether it clears line k: a Clear Poison of it answered Success
 abbrev pub clears : Call → ℕ → ℕ → Bool
@@ -27,6 +28,7 @@ clears (media-report time address lines kind) code k = false
 clears (line-test address) code k = false
 clears event-status code k = false
 clears damage-total code k = false
+clears (pool-command opcode payload time room) code k = false
 
 -- no call of a list clears line k
 abbrev pub NotCleared : DeviceState → List Call → ℕ → Type 0

@@ -12,3 +12,4 @@ pub mod Interrupts
 pub mod Reserved
 pub mod Labels
 pub mod Sanitizing
+pub mod Silence

@@ -8,7 +8,7 @@ use Rattle.wire.specs.Wire.{field}
 use Rattle.poison.specs.Paper.{Paper, paper-report, paper-inject, paper-clear}
 use Rattle.mailbox.specs.State.{DeviceState}
 use Rattle.list_commands.specs.PoisonCommands.{line-of}
-use Rattle.history.specs.Calls.{Call, command, event-report, media-report, line-test, event-status, damage-total, step}
+use Rattle.history.specs.Calls.{Call, command, event-report, media-report, line-test, event-status, damage-total, pool-command, step}
 
 -- a command answered 0000h: Inject Poison 4301h and Clear Poison 4302h, whose address is the payload's first 8 bytes; no other changes the paper
 abbrev pub write-command : Paper → ℕ → List ℕ → Paper
@@ -25,6 +25,7 @@ write p (media-report time address lines kind) code = cond (eqb code 0) (paper-r
 write p (line-test address) code = p
 write p event-status code = p
 write p damage-total code = p
+write p (pool-command opcode payload time room) code = p
 
 -- the device and the paper after a list of calls
 pub record Pair : Type 0 where

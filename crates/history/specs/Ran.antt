@@ -15,7 +15,7 @@ use Rattle.history.specs.Paper.{write}
 use Rattle.history.specs.Damage.{clears}
 
 -- the code was given device d and a call, answered a number, and left device e: what each contract gives (`command-steps`, `event-steps`, `media-steps`,
--- `line-steps`, `status-steps`, `total-steps` of proofs/Ran.antt)
+-- `line-steps`, `status-steps`, `total-steps`, `pool-steps` of proofs/Ran.antt)
 pub record Steps (d e : Device) (c : Call) (code : ℕ) : Type 0 where
   pub number : code ≡ step (state-of d) c .code
   pub next : state-of e ≡ step (state-of d) c .next

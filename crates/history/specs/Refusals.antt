@@ -8,10 +8,11 @@ use Rattle.settings.specs.Vector.{no-vector}
 use Rattle.settings.specs.Media.{due}
 use Rattle.mailbox.specs.Ending.{ended}
 use Rattle.mailbox.specs.Mailbox.{outcome}
+use Rattle.mailbox.specs.Pool.{pool-answer}
 use Rattle.mailbox.specs.DeviceCalls as Device
-use Rattle.history.specs.Calls.{Call, command, event-report, media-report, line-test, event-status, damage-total}
+use Rattle.history.specs.Calls.{Call, command, event-report, media-report, line-test, event-status, damage-total, pool-command}
 
--- a call on a device gives nothing: no reply and no vector; not stored and no vector; 0 lines; Unknown, number 2, with type 0. Event status and damage total are never refused.
+-- a call on a device gives nothing: no reply and no vector; not stored and no vector; 0 lines; Unknown, number 2, with type 0; of the second mailbox no reply (document 02, W-208). Event status and damage total are never refused.
 abbrev pub GivesNothing : DeviceState → Call → Type 0
 GivesNothing d (command opcode payload time area room) = (outcome d opcode payload time area room .reply ≡ []) × (outcome d opcode payload time area room .vector ≡ no-vector)
 GivesNothing d (event-report time log bytes) = (Device.event-report d time log bytes .stored ≡ false) × (Device.event-report d time log bytes .vector ≡ no-vector)
@@ -19,8 +20,9 @@ GivesNothing d (media-report time address lines kind) = (Device.media-report d t
 GivesNothing d (line-test address) = (Device.line-test d address .number ≡ 2) × (Device.line-test d address .kind ≡ 0)
 GivesNothing d event-status = ⊥
 GivesNothing d damage-total = ⊥
+GivesNothing d (pool-command opcode payload time room) = pool-answer d opcode payload time room .bytes ≡ []
 
--- the device that a call finds: a command and a report end a due Sanitize first; a line test, event status and damage total carry no time and end nothing (document 02, W-207)
+-- the device that a call finds: a command and a report end a due Sanitize first; a line test, event status and damage total carry no time and end nothing (document 02, W-207), and the second mailbox's commands "never end a Sanitize" (W-208)
 abbrev pub found-by : DeviceState → Call → DeviceState
 found-by d (command opcode payload time area room) = ended d time
 found-by d (event-report time log bytes) = ended d time
@@ -28,8 +30,9 @@ found-by d (media-report time address lines kind) = ended d time
 found-by d (line-test address) = d
 found-by d event-status = d
 found-by d damage-total = d
+found-by d (pool-command opcode payload time room) = d
 
--- no Sanitize is due at the call's time
+-- no Sanitize is due at the time of a call that would end it
 abbrev pub NothingDue : DeviceState → Call → Type 0
 NothingDue d (command opcode payload time area room) = due (d .media) time ≡ false
 NothingDue d (event-report time log bytes) = due (d .media) time ≡ false
@@ -37,3 +40,4 @@ NothingDue d (media-report time address lines kind) = due (d .media) time ≡ fa
 NothingDue d (line-test address) = Unit {0}
 NothingDue d event-status = Unit {0}
 NothingDue d damage-total = Unit {0}
+NothingDue d (pool-command opcode payload time room) = Unit {0}

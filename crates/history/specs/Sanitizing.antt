@@ -18,7 +18,7 @@ use Rattle.mailbox.specs.State.{DeviceState, with-logs, with-poison, with-media
 use Rattle.mailbox.specs.Mailbox.{outcome}
 use Rattle.mailbox.specs.DeviceCalls as Device
 use Rattle.mailbox.specs.declared.device.Device.{Device}
-use Rattle.history.specs.Calls.{Call, command, event-report, media-report, line-test, event-status, damage-total, step, after}
+use Rattle.history.specs.Calls.{Call, command, event-report, media-report, line-test, event-status, damage-total, pool-command, step, after}
 use Rattle.history.specs.Cases.{new-unit, handles-of, told, Case, case}
 use Rattle.history.specs.Interrupts.{enabled-unit}
 use Rattle.history.specs.Refusals.{found-by}
@@ -32,8 +32,9 @@ NoClear (media-report time address lines kind) = Unit {0}
 NoClear (line-test address) = Unit {0}
 NoClear event-status = Unit {0}
 NoClear damage-total = Unit {0}
+NoClear (pool-command opcode payload time room) = Unit {0}
 
--- a call comes before a time: its own is earlier, or it carries none
+-- a call comes before a time: its own is earlier, or it carries none, or it is the second mailbox's, which ends nothing whatever its time (document 02, W-208)
 abbrev pub Before : ℕ → Call → Type 0
 Before end (command opcode payload time area room) = time < end
 Before end (event-report time log bytes) = time < end
@@ -41,13 +42,14 @@ Before end (media-report time address lines kind) = time < end
 Before end (line-test address) = Unit {0}
 Before end event-status = Unit {0}
 Before end damage-total = Unit {0}
+Before end (pool-command opcode payload time room) = Unit {0}
 
 -- each call of a list
 abbrev pub AllBefore : ℕ → List Call → Type 0
 AllBefore end [] = Unit {0}
 AllBefore end (c ∷ cs) = Before end c × AllBefore end cs
 
--- a call carries a time, and that is so late or later
+-- a call that ends a due Sanitize carries a time, and that is so late or later
 abbrev pub From : ℕ → Call → Type 0
 From end (command opcode payload time area room) = end ≤ time
 From end (event-report time log bytes) = end ≤ time
@@ -55,6 +57,7 @@ From end (media-report time address lines kind) = end ≤ time
 From end (line-test address) = ⊥
 From end event-status = ⊥
 From end damage-total = ⊥
+From end (pool-command opcode payload time room) = ⊥
 
 -- no call of a list is answered 0001h: none starts a Sanitize
 abbrev pub NoneStarts : DeviceState → List Call → Type 0

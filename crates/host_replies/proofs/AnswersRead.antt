@@ -31,7 +31,8 @@ use Rattle.mailbox.specs.EventCommands.{get-event-records, clear-event-records}
 use Rattle.list_commands.specs.PoisonCommands.{line-of, range-code, list-reply, get-poison-list, inject-adds}
 use Rattle.mailbox.specs.Telling.{telling}
 use Rattle.mailbox.specs.Mailbox.{run-command, inject, outcome}
-use Rattle.mailbox.proofs.Laws.{accepted-runs}
+use Rattle.mailbox.specs.Pool.{pool-answer}
+use Rattle.mailbox.proofs.Laws.{accepted-runs, pool-replies}
 use Rattle.host_replies.specs.declared.counted.Kind.the-variants.{SupportedLogs}
 use Rattle.host_replies.specs.declared.reply.EventsRead.{EventsRead}
 use Rattle.host_replies.specs.declared.reply.LogsRead.{LogsRead}
@@ -233,3 +234,9 @@ pub accepted : (d : DeviceState) → Plain d → (op : ℕ) → (op ≡ 0x4102 �
 accepted d plain op f g p time area room =
     answered d plain p time area room op (λ (bs : List ℕ). reading-code op (log-length p) bs ≡ 0)
     (run-accepts (ended d time) (plain-ended d time plain) p time area op (ne-eqb op 0x4102 f) (ne-eqb op 0x4103 g) .accepts)
+
+-- The same of the second mailbox (document 02, W-208): every reply that it gives on Success is accepted by the reading of that opcode's reply.
+pub pool-accepted : (d : DeviceState) → Plain d → (op : ℕ) (p : List ℕ) (time room : ℕ) → pool-answer d op p time room .code ≡ 0 → reading-told op (field p 20 4) (pool-answer d op p time room .bytes) ≡ 0
+pool-accepted d plain op p time room z =
+    let t = pool-replies d op p time room z in
+    rw t (tells-accepts d plain p time [] Pool op .accepts (sym (ap (λ (r : Reply). r .code) t) ∙ z))

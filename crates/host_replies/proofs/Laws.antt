@@ -10,7 +10,7 @@ pub use Rattle.host_replies.proofs.Rereading.{events-reread, policy-rer
 -- and record i of some records is the i-th of them.
 pub use Rattle.host_replies.proofs.RecordsRead.{event-record-read, supported-log-read, poison-record-read}
 -- Every reply that the device gives on Success, to any opcode, is accepted by the reading of that opcode's reply, where the device's numbers have their widths (`Plain`);
-pub use Rattle.host_replies.proofs.AnswersRead.{accepted}
+pub use Rattle.host_replies.proofs.AnswersRead.{accepted, pool-accepted}
 -- it reads as what the device's definitions say, of the logs those of the device that the command finds (document 02, W-207).
 pub use Rattle.host_replies.proofs.AnswersRead.{events-told, policy-told, time-told, logs-told, log-told, identity-told, list-told}
 -- A new device's numbers have their widths, and on a device whose numbers have them so have those of the device that a call finds; entries in a chain on the largest device, each of a type of three bits, can be records.

@@ -69,5 +69,12 @@ pub use Rattle.mailbox.proofs.Sanitizing.{media-after}
 -- W-207, when: a Sanitize is due from the beginning plus the duration on and not before; its end comes once, after which nothing is due at any time, and nothing is due at the time of a call on the device that it
 -- finds.
 pub use Rattle.mailbox.proofs.Sanitizing.{due-from, not-due-before, ended-once, found-not-due}
+-- W-208, the second mailbox: the answer of the function over parts, at the parts of a valid device, is that device's. An opcode that the device has not is 0003h, one that the device has and this mailbox has not 0015h; a
+-- number other than 0000h comes with no reply, and no byte of the buffer is altered; one that is answered 0000h passed the checks before its own and is the command of its opcode.
+pub use Rattle.mailbox.proofs.PoolAnswers.{pool-parts-answered}
+pub use Rattle.mailbox.proofs.SecondMailbox.{pool-unknown, pool-has-not, pool-refusal, pool-unaltered, pool-passes, pool-replies}
+-- W-208: the five of its commands that do not tell of the effects log are answered with the number and the reply of the first mailbox on the same device, where that is lent an area of 4,096 bytes, accepted or refused; so where it
+-- accepts; so of the whole call where no Sanitize is due.
+pub use Rattle.mailbox.proofs.SecondMailbox.{pool-same, pool-same-accepted, pool-same-outcome}
 -- To unfold `rules` is to unfold every definition of a call: on a device that is written out it then computes.
 unfoldable pub use Rattle.mailbox.proofs.Computing.{rules}

@@ -8,10 +8,12 @@ pub mod ListAnswers
 pub mod DeviceAnswers
 pub mod PartAnswers
 pub mod AreaAnswers
+pub mod PoolAnswers
 pub mod Demand1
 pub mod Raising
 pub mod Reserved
 pub mod Labels
 pub mod Sanitizing
+pub mod SecondMailbox
 pub mod Computing
 pub mod Laws

@@ -5,6 +5,7 @@ pub mod LineStatus
 pub mod Outcome
 pub mod EventCommands
 pub mod Telling
+pub mod Pool
 pub mod DeviceCalls
 pub mod Mailbox
 pub mod Contracts

@@ -6,4 +6,5 @@ pub mod by_parts;
 pub mod device;
 pub mod device_calls;
 pub mod line_status;
+pub mod pool;
 mod telling;

@@ -5,7 +5,7 @@ ghost use mathlib.Core.Bool.{cond};
 ghost use Prim.Native.Nat.{_≤_, _<_};
 ghost use Rattle.poison.specs.State.{state-of, capacity, ValidList, Made, damage-total, total-in};
 
-// The fields are public for whoever lends the arrays: crate `embed`, which has the list behind a pointer, and `mailbox`, which has one by value (`by_parts`). No other crate
+// The fields are public for whoever lends the arrays: crate `embed`, which has the list behind a pointer, and `mailbox`, which has one by value (`by_parts`, `pool`). No other crate
 // names one (tests/layers).
 #[repr(C)]
 pub struct PoisonList {

@@ -1,5 +1,5 @@
 -- The mailbox's answers said of a record's bytes, each answer with its line, and which of them serves a record of each mark that sees the device alone. Assumes nothing.
-use mathlib.Core.Path.{_≡_, refl, sym, ap, ap₂, _∙_}
+use mathlib.Core.Path.{_≡_, refl, sym, ap, ap₂, subst, _∙_}
 use mathlib.Core.Bool.{Bool, true, cond}
 use mathlib.Core.List.{List, [], _∷_}
 use Prim.Native.Nat.{ℕ, _+_, _-_, _≤_, _<_}
@@ -18,11 +18,14 @@ use Rattle.mailbox.specs.State.{DeviceState, ValidDevice, state-of}
 use Rattle.mailbox.specs.Ending.{AfterEnding}
 use Rattle.mailbox.specs.LineStatus.{status-number, status-type}
 use Rattle.settings.specs.Vector.{vector-number}
+use Rattle.wire.specs.Done.{Writes}
+use Rattle.wire.specs.declared.done.Done.{Done}
+use Rattle.mailbox.specs.Pool.{pool-answer}
 use Rattle.mailbox.specs.DeviceCalls.{event-status, damage-total}
 use Rattle.mailbox.specs.Contracts.{Answered, Makes, EventDone, MediaDone, LineDone, StatusGiven}
 use Rattle.protocol.specs.declared.calls.Served.{Served}
 use Rattle.protocol.specs.Text.{column, line-end, numbers-line}
-use Rattle.protocol.specs.Records.{mark-of, NW, CM, EV, MD, LT, ES, DT, RQ, RP, RW, WK}
+use Rattle.protocol.specs.Records.{mark-of, NW, CM, EV, MD, LT, ES, DT, RQ, RP, RW, WK, PC}
 use Rattle.protocol.specs.Calls.{new-call, media-call, line-call}
 use Rattle.protocol.specs.Contracts.{Puts, PutsLine, Serves}
 use Rattle.protocol.proofs.Laws.{reply-fits, length-column, puts-then, puts-line-as, serves-as}
@@ -32,7 +35,8 @@ use Rattle.host_records.specs.HostRequests.{serve-request}
 use Rattle.reply_records.specs.HostReplies.{serve-reply}
 use Rattle.reply_records.specs.HostRewrites.{serve-again}
 use Rattle.host_records.specs.HostWalks.{serve-walk}
-use Rattle.probe.specs.Calls.{command-call, filled, event-call, command-line, serve-new, serve-command, serve-event, serve-media, serve-line, serve-status, serve-total, serve-device}
+use Rattle.probe.specs.PoolRecords.{filled, pool-call, serve-pool}
+use Rattle.probe.specs.Calls.{command-call, event-call, command-line, serve-new, serve-command, serve-event, serve-media, serve-line, serve-status, serve-total, serve-device}
 
 -- the first bytes of a buffer, as many as are lent
 pub taken : (n : ℕ) (l : List ℕ) → n ≤ length l → length (take n l) ≡ n
@@ -126,6 +130,19 @@ pub total-served : (d : Device) {n : ℕ} {before after : List ℕ} {used e : �
 unfolding serve-total
 total-served d told put valid = record { line = puts-line-as put (ap (λ (k : ℕ). numbers-line DT (k ∷ [])) told); next = refl; valid = valid }
 
+-- a command of the second mailbox at the record's fields, with the buffer as it was filled
+record Fields : Type 0 where
+  opcode : ℕ
+  payload : List ℕ
+  time : ℕ
+  room : ℕ
+  before : List ℕ
+
+pub pool-at : (d : DeviceState) (bytes : List ℕ) {opcode time : ℕ} {payload : List ℕ} {r : Done} {before after : List ℕ} → Writes (pool-answer d opcode payload time (length before)) r before after → opcode ≡ field bytes 10 2
+    → payload ≡ drop 17 bytes → time ≡ field bytes 2 8 → length before ≡ field bytes 12 2 → before ≡ filled bytes → Writes (pool-call d bytes) r (filled bytes) after
+pool-at d bytes {r = r} {after = after} h eo ep et el eb =
+    subst (λ (x : Fields). Writes (pool-answer d (x .opcode) (x .payload) (x .time) (x .room)) r (x .before) after) (λ i. record { opcode = eo i; payload = ep i; time = et i; room = el i; before = eb i }) h
+
 -- which of them serves a record that sees the device alone, by its mark
 module _ (d : DeviceState) (r : List ℕ) {used : ℕ} {s : Served} {before after : List ℕ} where
   pub by-new : mark-of r ≡ mark-of NW → Serves (serve-new r) used s before after → Serves (serve-device d r) used s before after
@@ -164,6 +181,10 @@ module _ (d : DeviceState) (r : List ℕ) {used : ℕ} {s : Served} {before afte
   unfolding serve-device
   by-walk e h = serves-as h (rw e)
 
+  pub by-pool : mark-of r ≡ mark-of PC → Serves (serve-pool d r) used s before after → Serves (serve-device d r) used s before after
+  unfolding serve-device
+  by-pool e h = serves-as h (rw e)
+
   pub by-total : mark-of r ≡ mark-of DT → Serves (serve-total d) used s before after → Serves (serve-device d r) used s before after
   unfolding serve-device
   by-total e h = serves-as h (rw e)
@@ -171,10 +192,10 @@ module _ (d : DeviceState) (r : List ℕ) {used : ℕ} {s : Served} {before afte
 -- a mark that no such record has: nothing is printed
 pub by-none : (r : List ℕ) {d : Device} {used : ℕ} {out : List ℕ} → (mark-of r ≡ mark-of NW → ⊥) → (mark-of r ≡ mark-of EV → ⊥)
     → (mark-of r ≡ mark-of MD → ⊥) → (mark-of r ≡ mark-of LT → ⊥) → (mark-of r ≡ mark-of ES → ⊥) → (mark-of r ≡ mark-of DT → ⊥) → (mark-of r ≡ mark-of RQ → ⊥)
-    → (mark-of r ≡ mark-of RP → ⊥) → (mark-of r ≡ mark-of RW → ⊥) → (mark-of r ≡ mark-of WK → ⊥) → ValidDevice d
+    → (mark-of r ≡ mark-of RP → ⊥) → (mark-of r ≡ mark-of RW → ⊥) → (mark-of r ≡ mark-of WK → ⊥) → (mark-of r ≡ mark-of PC → ⊥) → ValidDevice d
     → PutsLine used [] out out used → Serves (serve-device (state-of d) r) used (record { used = used; device = d }) out out
 unfolding serve-device
-by-none r {d} {used} {out} h₁ h₂ h₃ h₄ h₅ h₆ h₇ h₈ h₉ h₁₀ valid put =
+by-none r {d} {used} {out} h₁ h₂ h₃ h₄ h₅ h₆ h₇ h₈ h₉ h₁₀ h₁₁ valid put =
     serves-as {o = record { line = []; next = state-of d }} (record { line = put; next = refl; valid = valid })
     (rw (
       ne-eqb (mark-of r) (mark-of NW) h₁,
@@ -187,4 +208,5 @@ by-none r {d} {used} {out} h₁ h₂ h₃ h₄ h₅ h₆ h₇ h₈ h₉ h₁₀ 
       ne-eqb (mark-of r) (mark-of RP) h₈,
       ne-eqb (mark-of r) (mark-of RW) h₉,
       ne-eqb (mark-of r) (mark-of WK) h₁₀,
+      ne-eqb (mark-of r) (mark-of PC) h₁₁,
     ))

@@ -1,11 +1,11 @@
 -- Each record's call, at the fields read out of its bytes (document 10, "Records of the base" and the row of W-204), by the mailbox's own definitions; and what serving
 -- it gives: "Every answer is printed whole, also of a refused call". A field stands after the two bytes of the mark. The records of the
--- host library stand in `HostRequests`, `HostReplies`, `HostRewrites` and `HostWalks`, those of the label store in `LabelRecords`. Assumes nothing.
+-- host library stand in `HostRequests`, `HostReplies`, `HostRewrites` and `HostWalks`, those of the label store in `LabelRecords`, that of the second mailbox in `PoolRecords`. Assumes nothing.
 use Prim.Native.Nat.{ℕ}
 use mathlib.Core.Bool.{cond}
 use mathlib.Core.List.{List, [], _∷_, _++_}
 use lib.Dec.{eqb}
-use lib.ListN.{length, getD, drop, replicate}
+use lib.ListN.{length, getD, drop}
 use Rattle.wire.specs.Wire.{field, splice}
 use Rattle.mailbox.specs.State.{DeviceState}
 use Rattle.mailbox.specs.Outcome.{Outcome}
@@ -13,7 +13,7 @@ use Rattle.mailbox.specs.Mailbox.{outcome, area-after}
 use Rattle.mailbox.specs.DeviceCalls.{EventOutcome, event-report, event-status, damage-total}
 use Rattle.protocol.specs.declared.formats.Format.the-variants.{Probe}
 use Rattle.protocol.specs.Text.{column, line-end, numbers-line}
-use Rattle.protocol.specs.Records.{mark-of, NW, CM, EV, MD, LT, ES, DT, RQ, RP, RW, WK, AR, AB}
+use Rattle.protocol.specs.Records.{mark-of, NW, CM, EV, MD, LT, ES, DT, RQ, RP, RW, WK, AR, AB, PC}
 use Rattle.protocol.specs.Formats.{fixed, head, size}
 use Rattle.protocol.specs.Calls.{new-call, media-call, line-call}
 use Rattle.protocol.specs.Runs.{Printed, Program}
@@ -22,6 +22,7 @@ use Rattle.host_records.specs.HostRequests.{serve-request}
 use Rattle.reply_records.specs.HostReplies.{serve-reply}
 use Rattle.reply_records.specs.HostRewrites.{serve-again}
 use Rattle.host_records.specs.HostWalks.{serve-walk}
+use Rattle.probe.specs.PoolRecords.{filled, serve-pool}
 use Rattle.probe.specs.LabelRecords.{Kept, area-lent, store-with, keeps-store, serve-area, serve-bytes}
 
 -- `CM` "time 8, opcode 2, room 2, fill 1, length 2, payload", with this label area lent
@@ -31,10 +32,6 @@ command-call d area r = outcome d (field r 10 2) (drop 17 r) (field r 2 8) area 
 -- the label area after that command, by the number that answered it
 abbrev pub area-left : List ℕ → List ℕ → ℕ → List ℕ
 area-left area r code = area-after (field r 10 2) (drop 17 r) code area
-
--- "the buffer that the call writes has `room` bytes, each of them `fill` before the call"
-abbrev pub filled : List ℕ → List ℕ
-filled r = replicate (field r 12 2) (getD r 14 0)
 
 -- `EV` "time 8, log 1, length 2, record of that length"
 abbrev pub event-call : DeviceState → List ℕ → EventOutcome
@@ -94,7 +91,8 @@ serve-device d r =
     (cond (eqb (mark-of r) (mark-of RQ)) (serve-request d r)
     (cond (eqb (mark-of r) (mark-of RP)) (serve-reply d r)
     (cond (eqb (mark-of r) (mark-of RW)) (serve-again d r)
-    (cond (eqb (mark-of r) (mark-of WK)) (serve-walk d r) (record { line = []; next = d }))))))))))
+    (cond (eqb (mark-of r) (mark-of WK)) (serve-walk d r)
+    (cond (eqb (mark-of r) (mark-of PC)) (serve-pool d r) (record { line = []; next = d })))))))))))
 
 -- a record, by its mark
 unfoldable pub serve-record : Kept → List ℕ → Printed Kept

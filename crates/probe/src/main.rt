@@ -2,6 +2,7 @@
 // answer. One record is in memory at a time; the input may have any length. That it is safe and ends is proved, and so is every record's call and line; what the
 // system's calls read and write is tested.
 mod label_records;
+mod pool_records;
 mod serve;
 
 use protocol::stream;

@@ -1,6 +1,7 @@
 // Each record given to the device, and its line printed (document 10, "Records of the base" and the rows of W-204 and W-206). A record's function gives the device
-// that follows. The records of the host library and the lines of the label store's records have modules of their own.
+// that follows. The records of the host library, the second mailbox's and the lines of the label store's records have modules of their own.
 use crate::label_records;
+use crate::pool_records;
 use host_records::buffer;
 use host_records::buffer::LINE_ROOM;
 use host_records::requests;
@@ -35,7 +36,8 @@ ghost use Rattle.protocol.specs.Contracts.{Serves};
 ghost use Rattle.protocol.specs.Runs.{machine-of, Ends};
 ghost use Rattle.host_records.specs.Lines.{line-room};
 ghost use Rattle.probe.specs.LabelRecords.{zeros, kept-first};
-ghost use Rattle.probe.specs.Calls.{command-call, area-left, filled, event-call, serve-new, serve-command, serve-lent, serve-event, serve-media, serve-line, serve-status, serve-total, serve-device, serve-record, probe};
+ghost use Rattle.probe.specs.Calls.{command-call, area-left, event-call, serve-new, serve-command, serve-lent, serve-event, serve-media, serve-line, serve-status, serve-total, serve-device, serve-record, probe};
+ghost use Rattle.probe.specs.PoolRecords.{filled};
 ghost use Rattle.probe.specs.Contracts.{kept-of, Leaves};
 
 // A record served: the device that follows, how many bytes of the label store are lent from then on, and the bytes of the output buffer that are not written yet, with
@@ -253,6 +255,10 @@ fn serve_device(
         0x574B => { // WK
             let room = wire::get(bytes, 18, 4) as usize;
             walks::walk(device, bytes, &mut reply[..room], out, used)
+        }
+        0x5043 => { // PC
+            let reply_room = wire::get(bytes, 12, 2) as usize;
+            pool_records::pool(device, bytes, &mut reply[..reply_room], out, used)
         }
         _ => Served { used, device },
     }

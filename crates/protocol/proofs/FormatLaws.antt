@@ -14,8 +14,8 @@ use Rattle.wire.specs.Wire.{field}
 use Rattle.wire.proofs.Laws.{either, and-parts}
 use Rattle.protocol.specs.declared.formats.Format.{Format}
 use Rattle.protocol.specs.declared.formats.Format.the-variants.{Bench, Probe}
-use Rattle.protocol.specs.Records.{mark-of, NW, CM, EV, MD, LT, ES, DT, RQ, RP, RW, WK, AR, AB, front-fixed, front-head, front-size, OneRecord}
-use Rattle.protocol.specs.Formats.{bench-fixed, bench-size, probe-least, probe-fixed, probe-head, probe-within, probe-rest, probe-size, fixed, head, size, FixedPart, Head, Ready}
+use Rattle.protocol.specs.Records.{mark-of, NW, CM, EV, MD, LT, ES, DT, RQ, RP, RW, WK, AR, AB, PC, front-fixed, front-head, front-size, OneRecord}
+use Rattle.protocol.specs.Formats.{bench-fixed, bench-size, of-command, probe-least, probe-fixed, probe-head, probe-within, probe-rest, probe-size, fixed, head, size, FixedPart, Head, Ready}
 use Rattle.protocol.specs.HostFormats.{within, opcode-of, request-head, knows, request-within, request-rest, RequestRead}
 use Rattle.protocol.proofs.StreamLaws.{field-front}
 use Rattle.protocol.proofs.RecordLaws.{mark-front, Sized, Parts, fixed-part, head-part, parts, mark-there}
@@ -27,11 +27,11 @@ pub bench-none : (m : ℕ) → (m ≡ mark-of CM → ⊥) → (m ≡ mark-of EV 
 unfolding bench-fixed
 bench-none m h₁ h₂ h₃ h₄ = rw (ne-eqb m (mark-of CM) h₁, ne-eqb m (mark-of EV) h₂, ne-eqb m (mark-of MD) h₃, ne-eqb m (mark-of LT) h₄) refl
 
--- no mark of `probe` but the thirteen
+-- no mark of `probe` but the fourteen
 pub least-none : (m : ℕ) → (m ≡ mark-of NW → ⊥) → (m ≡ mark-of CM → ⊥) → (m ≡ mark-of EV → ⊥) → (m ≡ mark-of MD → ⊥) → (m ≡ mark-of LT → ⊥) → (m ≡ mark-of ES → ⊥) → (m ≡ mark-of DT → ⊥) → (m ≡ mark-of RQ → ⊥) → (m ≡ mark-of RP → ⊥) → (m ≡ mark-of RW → ⊥) → (m ≡ mark-of WK → ⊥)
-    → (m ≡ mark-of AR → ⊥) → (m ≡ mark-of AB → ⊥) → 0 ≡ probe-least m
+    → (m ≡ mark-of AR → ⊥) → (m ≡ mark-of AB → ⊥) → (m ≡ mark-of PC → ⊥) → 0 ≡ probe-least m
 unfolding probe-least
-least-none m h₁ h₂ h₃ h₄ h₅ h₆ h₇ h₈ h₉ h₁₀ h₁₁ h₁₂ h₁₃ =
+least-none m h₁ h₂ h₃ h₄ h₅ h₆ h₇ h₈ h₉ h₁₀ h₁₁ h₁₂ h₁₃ h₁₄ =
     rw (
       ne-eqb m (mark-of NW) h₁,
       ne-eqb m (mark-of CM) h₂,
@@ -46,6 +46,7 @@ least-none m h₁ h₂ h₃ h₄ h₅ h₆ h₇ h₈ h₉ h₁₀ h₁₁ h₁�
       ne-eqb m (mark-of WK) h₁₁,
       ne-eqb m (mark-of AR) h₁₂,
       ne-eqb m (mark-of AB) h₁₃,
+      ne-eqb m (mark-of PC) h₁₄,
     ) refl
 
 -- the first record of either is a make
@@ -82,7 +83,7 @@ least-good : (m : ℕ) → Good (probe-least m)
 unfolding probe-least
 least-good m =
     either Good (eqb m (mark-of NW)) (some 6 (lit≤ tt) (lit≤ tt))
-    (either Good (eqb m (mark-of CM)) (some 17 (lit≤ tt) (lit≤ tt))
+    (either Good (of-command m) (some 17 (lit≤ tt) (lit≤ tt))
     (either Good (eqb m (mark-of EV)) (some 13 (lit≤ tt) (lit≤ tt))
     (either Good (eqb m (mark-of MD)) (some 23 (lit≤ tt) (lit≤ tt))
     (either Good (eqb m (mark-of LT)) (some 10 (lit≤ tt) (lit≤ tt))
@@ -161,11 +162,11 @@ within-some h some = go (probe-within h) refl
 
 -- what both are, by the mark
 module _ (h : List ℕ) where
-  pub command-within : mark-of h ≡ mark-of CM → probe-within h ≡ (within (field h 12 2) && within (field h 15 2))
+  pub command-within : of-command (mark-of h) ≡ true → probe-within h ≡ (within (field h 12 2) && within (field h 15 2))
   unfolding probe-within
   command-within e = rw e refl
 
-  pub command-rest : mark-of h ≡ mark-of CM → probe-rest h ≡ field h 15 2
+  pub command-rest : of-command (mark-of h) ≡ true → probe-rest h ≡ field h 15 2
   unfolding probe-rest
   command-rest e = rw e refl
 
@@ -248,9 +249,9 @@ module _ (h : List ℕ) where
 
   -- any other has no size in it
   pub probe-plain : (mark-of h ≡ mark-of CM → ⊥) → (mark-of h ≡ mark-of EV → ⊥) → (mark-of h ≡ mark-of RQ → ⊥) → (mark-of h ≡ mark-of RP → ⊥) → (mark-of h ≡ mark-of RW → ⊥)
-      → (mark-of h ≡ mark-of WK → ⊥) → (mark-of h ≡ mark-of AR → ⊥) → (mark-of h ≡ mark-of AB → ⊥) → length h ≡ probe-size h
+      → (mark-of h ≡ mark-of WK → ⊥) → (mark-of h ≡ mark-of AR → ⊥) → (mark-of h ≡ mark-of AB → ⊥) → (mark-of h ≡ mark-of PC → ⊥) → length h ≡ probe-size h
   unfolding probe-size probe-within probe-rest
-  probe-plain h₁ h₂ h₃ h₄ h₅ h₆ h₇ h₈ =
+  probe-plain h₁ h₂ h₃ h₄ h₅ h₆ h₇ h₈ h₉ =
       sym
       (rw (
         ne-eqb (mark-of h) (mark-of CM) h₁,
@@ -261,6 +262,7 @@ module _ (h : List ℕ) where
         ne-eqb (mark-of h) (mark-of WK) h₆,
         ne-eqb (mark-of h) (mark-of AR) h₇,
         ne-eqb (mark-of h) (mark-of AB) h₈,
+        ne-eqb (mark-of h) (mark-of PC) h₉,
       ) (add-zero (length h)))
 
 -- ---- records of either
@@ -483,12 +485,12 @@ module _ (first : Bool) (r : List ℕ) (some : 0 < length r) (part : Parts (fixe
   same i k fits = field-front n i k r h refl fits (part .inside)
 
   -- a command's room, and a walk's
-  command-room : mark-of r ≡ mark-of CM → field r 12 2 ≤ 4096
-  unfolding probe-least
-  command-room e =
-      let told : (within (field h 12 2) && within (field h 15 2)) ≡ true = sym (command-within h (letters ∙ e)) ∙ limits in
+  -- the room of a command's record of either mark
+  command-room : (m : ℕ) → probe-least m ≡ 17 → of-command m ≡ true → mark-of r ≡ m → field r 12 2 ≤ 4096
+  command-room m fields asks e =
+      let told : (within (field h 12 2) && within (field h 15 2)) ≡ true = sym (command-within h (ap of-command (letters ∙ e) ∙ asks)) ∙ limits in
       let few : field h 12 2 ≤ 4096 = leb-true (field h 12 2) 4096 (and-parts (within (field h 12 2)) (within (field h 15 2)) told .0) in
-      let wide : 17 ≤ n = subst (λ (m : ℕ). probe-least m ≤ n) e least in
+      let wide : 17 ≤ n = omega (arith, fields, ap probe-least e, least) in
       omega (arith, few, same 12 2 (omega arith))
 
   walk-room : mark-of r ≡ mark-of WK → field r 18 4 ≤ 65536
@@ -591,12 +593,14 @@ module _ (first : Bool) (r : List ℕ) (some : 0 < length r) (part : Parts (fixe
           record { room = few; fields = omega (arith, size, part .inside); handles = handles size }
 
 pub ready : (first : Bool) (r : List ℕ) → OneRecord (front-size (fixed Probe first) (head Probe) (size Probe)) r → Ready r
+unfolding probe-least
 ready first r this =
     let part = found-parts Probe first r this in
     record {
       marked = mark-there (fixed Probe first) (head Probe) (size Probe) (sized Probe first) r this;
       fields = omega (arith, least first r (this .some) part, part .inside);
-      command = command-room first r (this .some) part;
+      command = command-room first r (this .some) part (mark-of CM) refl refl;
+      pool = command-room first r (this .some) part (mark-of PC) refl refl;
       request = request-read first r (this .some) part;
       reply = reply-length first r (this .some) part;
       again = again-lengths first r (this .some) part;

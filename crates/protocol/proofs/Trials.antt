@@ -65,7 +65,7 @@ unfolding read bench-sizes front-size tells whole fixed head size bench-fixed be
 bench-records = refl
 
 -- of `probe`: NW as first and later, LT as first and later, CM with a room of 4,096 and a payload of one byte, that byte cut, and with a room of 4,097; EV with a
--- record of three bytes, and with one of 4,097; ES, DT, an unknown mark
+-- record of three bytes, and with one of 4,097; ES, DT, an unknown mark; PC as first, PC with a room of 4,096 and a payload of one byte, with a room of 4,097, and with a payload of 4,097
 probe-sizes : List ℕ
 probe-sizes =
     read Probe true (78 ∷ 87 ∷ 1 ∷ 0 ∷ 0 ∷ 0 ∷ 9 ∷ [])
@@ -80,9 +80,13 @@ probe-sizes =
     ∷ read Probe false (69 ∷ 83 ∷ [])
     ∷ read Probe false (68 ∷ 84 ∷ 9 ∷ [])
     ∷ read Probe false (68 ∷ 85 ∷ 9 ∷ [])
+    ∷ read Probe true (80 ∷ 67 ∷ replicate 15 0)
+    ∷ read Probe false (80 ∷ 67 ∷ replicate 10 0 ++ (0 ∷ 16 ∷ 255 ∷ 1 ∷ 0 ∷ 7 ∷ 7 ∷ []))
+    ∷ read Probe false (80 ∷ 67 ∷ replicate 10 0 ++ (1 ∷ 16 ∷ 255 ∷ 1 ∷ 0 ∷ 7 ∷ 7 ∷ []))
+    ∷ read Probe false (80 ∷ 67 ∷ replicate 10 0 ++ (0 ∷ 16 ∷ 255 ∷ 1 ∷ 16 ∷ replicate 4097 0))
     ∷ []
 
-probe-records : probe-sizes ≡ 6 ∷ 6 ∷ 0 ∷ 10 ∷ 18 ∷ 0 ∷ 0 ∷ 16 ∷ 0 ∷ 2 ∷ 2 ∷ 0 ∷ []
+probe-records : probe-sizes ≡ 6 ∷ 6 ∷ 0 ∷ 10 ∷ 18 ∷ 0 ∷ 0 ∷ 16 ∷ 0 ∷ 2 ∷ 2 ∷ 0 ∷ 0 ∷ 18 ∷ 0 ∷ 0 ∷ []
 unfolding read probe-sizes front-size tells whole fixed head size probe-least probe-fixed probe-head probe-within probe-rest probe-size field number part
 probe-records = refl
 

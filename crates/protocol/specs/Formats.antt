@@ -1,15 +1,15 @@
--- The records of the input of each program (document 01, "Bench program"; document 10, "Records of the base" and, of W-202 and W-206, "Records that a
+-- The records of the input of each program (document 01, "Bench program"; document 10, "Records of the base" and, of W-202, W-206 and W-208, "Records that a
 -- request brings"): how long each is. Assumes nothing.
 use Prim.Native.Nat.{ℕ, _+_, _≤_}
 use mathlib.Core.Path.{_≡_}
-use mathlib.Core.Bool.{Bool, true, false, _&&_, cond}
+use mathlib.Core.Bool.{Bool, true, false, _&&_, _||_, cond}
 use mathlib.Core.List.{List}
 use lib.Dec.{eqb, leb}
 use lib.ListN.{length}
 use Rattle.wire.specs.Wire.{field}
 use Rattle.protocol.specs.declared.formats.Format.{Format}
 use Rattle.protocol.specs.declared.formats.Format.the-variants.{Bench, Probe}
-use Rattle.protocol.specs.Records.{mark-of, NW, CM, EV, MD, LT, ES, DT, RQ, RP, RW, WK, AR, AB}
+use Rattle.protocol.specs.Records.{mark-of, NW, CM, EV, MD, LT, ES, DT, RQ, RP, RW, WK, AR, AB, PC}
 use Rattle.protocol.specs.HostFormats.{within, opcode-of, request-head, knows, request-within, request-rest, RequestRead}
 
 -- ---- `bench`, document 01
@@ -31,13 +31,17 @@ bench-size h = cond (eqb (mark-of h) (mark-of CM)) (cond (leb (field h 12 2) 204
 
 -- ---- `probe`, document 10
 
+-- a command's record, to the first mailbox or the second: `PC`, W-208, has its fields "as `CM`"
+abbrev pub of-command : ℕ → Bool
+of-command m = eqb m (mark-of CM) || eqb m (mark-of PC)
+
 -- the bytes of a record's fixed part, by its mark: `NW` volatile 2, persistent 2; `CM` time 8, opcode 2, room 2, fill 1, length 2; `EV` time 8, log 1, length 2;
 -- `MD` time 8, address 8, lines 4, type 1; `LT` address 8; `ES` and `DT` nothing; `RQ` opcode 2, room 2, fill 1; `RP` opcode 2, asked 4, length 2; `RW` opcode 2,
--- asked 4, room 2, fill 1, length 2; `WK` address 8, lines 8, room 4, fill 1; `AR` size 4; `AB` offset 2, length 2. 0: "An unknown mark .. prints `BAD`"
+-- asked 4, room 2, fill 1, length 2; `WK` address 8, lines 8, room 4, fill 1; `AR` size 4; `AB` offset 2, length 2; `PC` as `CM`. 0: "An unknown mark .. prints `BAD`"
 unfoldable pub probe-least : ℕ → ℕ
 probe-least m =
     cond (eqb m (mark-of NW)) 6
-    (cond (eqb m (mark-of CM)) 17
+    (cond (of-command m) 17
     (cond (eqb m (mark-of EV)) 13
     (cond (eqb m (mark-of MD)) 23
     (cond (eqb m (mark-of LT)) 10
@@ -60,11 +64,11 @@ probe-fixed false m = probe-least m
 unfoldable pub probe-head : List ℕ → ℕ
 probe-head h = cond (eqb (mark-of h) (mark-of RQ)) (cond (within (field h 4 2)) (request-head (opcode-of h)) 0) (length h)
 
--- whether the sizes in a record's head are within their limits, and its opcode known: "room, payload length and record length at most 4,096 each", "reply length at
+-- whether the sizes in a record's head are within their limits, and its opcode known: "room, payload length and record length at most 4,096 each", of `PC` too, "reply length at
 -- most 4,096", "room of `WK` at most 65,536", "sizes of `AR` at most 8,192, offset plus length of `AB` at most 8,192"
 unfoldable pub probe-within : List ℕ → Bool
 probe-within h =
-    cond (eqb (mark-of h) (mark-of CM)) (within (field h 12 2) && within (field h 15 2))
+    cond (of-command (mark-of h)) (within (field h 12 2) && within (field h 15 2))
     (cond (eqb (mark-of h) (mark-of EV)) (within (field h 11 2))
     (cond (eqb (mark-of h) (mark-of RQ)) (request-within h)
     (cond (eqb (mark-of h) (mark-of RP)) (knows (opcode-of h) && within (field h 8 2))
@@ -76,7 +80,7 @@ probe-within h =
 -- the bytes after a record's head: a command's payload, an event's record, what a request's fields say, a reply
 unfoldable pub probe-rest : List ℕ → ℕ
 probe-rest h =
-    cond (eqb (mark-of h) (mark-of CM)) (field h 15 2)
+    cond (of-command (mark-of h)) (field h 15 2)
     (cond (eqb (mark-of h) (mark-of EV)) (field h 11 2)
     (cond (eqb (mark-of h) (mark-of RQ)) (request-rest h)
     (cond (eqb (mark-of h) (mark-of RP)) (field h 8 2)
@@ -124,4 +128,5 @@ pub record Ready (r : List ℕ) : Type 0 where
   pub again : mark-of r ≡ mark-of RW → (field r 8 2 ≤ 4096) × (length r ≤ 4109)
   pub walk : mark-of r ≡ mark-of WK → field r 18 4 ≤ 65536
   pub area : mark-of r ≡ mark-of AR → field r 2 4 ≤ 8192
+  pub pool : mark-of r ≡ mark-of PC → field r 12 2 ≤ 4096
   pub stored : mark-of r ≡ mark-of AB → field r 2 2 + field r 4 2 ≤ 8192

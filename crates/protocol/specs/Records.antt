@@ -52,6 +52,9 @@ AR = 65 ∷ 82 ∷ []
 abbrev pub AB : List ℕ
 AB = 65 ∷ 66 ∷ []
 
+abbrev pub PC : List ℕ
+PC = 80 ∷ 67 ∷ []
+
 -- n bytes at the front, or 0 where they are cut
 unfoldable pub whole : ℕ → List ℕ → ℕ
 whole n r = cond (leb n (length r)) n 0

@@ -6,13 +6,14 @@ use crate::records;
 use crate::records::Found;
 use crate::stream::Stream;
 ghost use mathlib.Core.Path.{_≡_};
+ghost use mathlib.Core.Bool.{true};
 ghost use Prim.Native.Nat.{_≤_};
 ghost use lib.Dec.{eqb};
 ghost use lib.ListN.{length};
 ghost use Rattle.protocol.specs.declared.formats.Format.the-variants.{Bench, Probe};
 ghost use Rattle.protocol.specs.Stream.{Fits};
-ghost use Rattle.protocol.specs.Records.{mark-of, CM, EV, front-fixed, front-head, front-size};
-ghost use Rattle.protocol.specs.Formats.{bench-fixed, bench-size, probe-least, probe-fixed, probe-size, fixed, head, size, FixedPart, Head};
+ghost use Rattle.protocol.specs.Records.{mark-of, EV, front-fixed, front-head, front-size};
+ghost use Rattle.protocol.specs.Formats.{bench-fixed, bench-size, of-command, probe-least, probe-fixed, probe-size, fixed, head, size, FixedPart, Head};
 ghost use Rattle.protocol.specs.Contracts.{Finds};
 
 // Whose records they are.
@@ -71,6 +72,7 @@ fn probe_least(mark: u64) -> usize
         0x574B => 23, // WK
         0x4152 => 6, // AR
         0x4142 => 6, // AB
+        0x5043 => 17, // PC
         _ => 0,
     }
 }
@@ -85,9 +87,9 @@ fn probe_fixed(first: bool, mark: u64) -> usize
     probe_least(mark)
 }
 
-// Of `probe`: the bytes of a command's record that begins so; 0 where its room or its payload is too long.
+// Of `probe`: the bytes of a command's record, CM or PC, that begins so; 0 where its room or its payload is too long.
 fn command_size(head: &[u8]) -> usize
-    requires { ⌜ Head Probe (now head) × (mark-of (now head) ≡ mark-of CM) ⌝ }
+    requires { ⌜ Head Probe (now head) × (17 ≤ length (now head)) × (of-command (mark-of (now head)) ≡ true) ⌝ }
     ensures { λ r. ⌜ (r ≡ probe-size (now (head .entry))) × (r ≤ 65536) ⌝ }
 {
     let room = wire::get(head, 12, 2) as usize;
@@ -127,6 +129,7 @@ fn probe_size(head: &[u8]) -> usize
         0x574B => host_formats::walk_size(head), // WK
         0x4152 => label_formats::area_size(head), // AR
         0x4142 => label_formats::bytes_size(head), // AB
+        0x5043 => command_size(head), // PC
         _ => head.len(),
     }
 }

@@ -30,8 +30,9 @@ fn log_word(log: u64) -> String {
 fn columns(format: Format, record: &Record) -> &'static [&'static str] {
     match record {
         Record::New { .. } => &["code"],
-        Record::Command { .. } if format == Format::Bench => &["code", "length", "reply"],
-        Record::Command { .. } => &["code", "length", "reply", "kept", "vector"],
+        Record::Command(_) if format == Format::Bench => &["code", "length", "reply"],
+        Record::Command(_) => &["code", "length", "reply", "kept", "vector"],
+        Record::Pool(_) => &["code", "length", "reply", "kept"],
         Record::Event { .. } if format == Format::Bench => &["code", "stored"],
         Record::Event { .. } => &["code", "stored", "vector"],
         Record::Media { .. } => &["code", "stored", "dropped"],
@@ -54,8 +55,8 @@ fn printed(format: Format, record: &Record, words: &[&str]) -> &'static [&'stati
     let zero = |at: usize| words.get(at) == Some(&"0");
     match (format, record) {
         (Format::Probe, _) => all,
-        (Format::Bench, Record::Command { .. }) if zero(1) => &all[..2],
-        (Format::Bench, Record::Command { .. }) => all,
+        (Format::Bench, Record::Command(_)) if zero(1) => &all[..2],
+        (Format::Bench, Record::Command(_)) => all,
         (Format::Bench, _) if zero(0) => all,
         (Format::Bench, _) => &all[..1],
     }
@@ -225,12 +226,10 @@ fn meaning(answer: &mut Answer, record: &Record) -> Option<()> {
         None => Some(Vec::new()),
     };
     match record {
-        Record::Command {
-            opcode, payload, ..
-        } => {
+        Record::Command(call) | Record::Pool(call) => {
             let reply = written(answer, "reply")?;
             if answer.has("success") && !reply.is_empty() {
-                add_parts(answer, layout(*opcode), payload, &reply);
+                add_parts(answer, layout(call.opcode), &call.payload, &reply);
             }
         }
         Record::Request { .. } => drop(written(answer, "payload")?),
@@ -280,8 +279,8 @@ fn stateable(format: Format, record: &Record) -> (Vec<&'static str>, Vec<&'stati
         words.extend(RETURN_NAMES.iter().map(|(_, name)| *name));
     }
     match record {
-        Record::Command { opcode, .. } => {
-            fields.extend(layout(*opcode).iter().map(|(name, _)| *name));
+        Record::Command(call) | Record::Pool(call) => {
+            fields.extend(layout(call.opcode).iter().map(|(name, _)| *name));
         }
         Record::Event { .. } => words.extend(STORED),
         Record::Line { .. } => words.extend(ANSWERS),

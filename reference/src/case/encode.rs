@@ -8,7 +8,7 @@ use super::text::{plain_lines, whole_number, CaseError, PlainLine};
 use crate::device::numbers::{opcode, MAILBOX, RECORD};
 use crate::device::EFFECTS_IDENTIFIER;
 use crate::format::Format;
-use crate::probe::record::{Record, LABEL_STORE, MOST};
+use crate::probe::record::{Call, Record, LABEL_STORE, MOST};
 
 /// A case line with its bytes and their place in the stream.
 #[derive(Clone, Debug, PartialEq, Eq)]
@@ -143,7 +143,15 @@ fn bytes_of(
 fn length_field(words: &str) -> Result<(String, Option<u16>), String> {
     const NAME: &str = "length-field=";
     let first = words.split_whitespace().next().unwrap_or_default();
-    let sized = ["command", "event", "request", "reply", "write-again"].contains(&first);
+    let sized = [
+        "command",
+        "pool",
+        "event",
+        "request",
+        "reply",
+        "write-again",
+    ]
+    .contains(&first);
     if !sized || !words.contains(NAME) {
         return Ok((words.to_string(), None));
     }
@@ -161,8 +169,8 @@ fn length_field(words: &str) -> Result<(String, Option<u16>), String> {
 /// Where a record's length field stands and how many bytes it has, if there is one.
 fn length_place(format: Format, record: &Record) -> Option<(usize, usize)> {
     match (format, record) {
-        (Format::Bench, Record::Command { .. }) => Some((12, 2)),
-        (Format::Probe, Record::Command { .. }) => Some((15, 2)),
+        (Format::Bench, Record::Command(_)) => Some((12, 2)),
+        (Format::Probe, Record::Command(_) | Record::Pool(_)) => Some((15, 2)),
         (Format::Probe, Record::Event { .. }) => Some((11, 2)),
         _ => host_lines::length_place(record),
     }
@@ -186,7 +194,8 @@ fn record(format: Format, words: &str) -> Result<Option<Record>, String> {
     let mut fields = Fields::new(rest)?;
     let record = match first {
         "new" => new(&fields)?,
-        "command" => command(format, &mut fields)?,
+        "command" => Record::Command(call(format, &mut fields)?),
+        "pool" => Record::Pool(call(format, &mut fields)?),
         "event" => Record::Event {
             time: fields.number_or("time", u64::MAX, 0)?,
             log: fields.number("log", 255)? as u8,
@@ -211,7 +220,7 @@ fn record(format: Format, words: &str) -> Result<Option<Record>, String> {
     };
     let bare = match record {
         Record::New { .. } => 2,
-        Record::Command { .. } | Record::Request { .. } => 1,
+        Record::Command(_) | Record::Pool(_) | Record::Request { .. } => 1,
         Record::Reply { .. } | Record::Rewrite { .. } => 1,
         _ => 0,
     };
@@ -250,8 +259,8 @@ fn label_bytes(fields: &mut Fields) -> Result<Record, String> {
     }
 }
 
-/// A `command` line. Bench lends a whole mailbox and has no words for it.
-fn command(format: Format, fields: &mut Fields) -> Result<Record, String> {
+/// A `command` or `pool` line. Bench lends a whole mailbox and has no words for it.
+fn call(format: Format, fields: &mut Fields) -> Result<Call, String> {
     let time = fields.number_or("time", u64::MAX, 0)?;
     let (room, fill) = match format {
         Format::Bench => (MAILBOX as u64, 0),
@@ -273,7 +282,7 @@ fn command(format: Format, fields: &mut Fields) -> Result<Record, String> {
             "expected a payload of at most {most} bytes (see `bytes`)"
         ));
     }
-    Ok(Record::Command {
+    Ok(Call {
         time,
         opcode,
         room: room as u16,

@@ -6,7 +6,8 @@ use super::host_answers;
 use super::pairs;
 use super::words::hex_pieces;
 use crate::device::numbers::{number, opcode, LABEL_AREA};
-use crate::probe::record::Record;
+use crate::device::pool::Mailbox;
+use crate::probe::record::{Call, Record};
 
 /// The whole explanation.
 pub fn explain(case: &Case, output: &str) -> String {
@@ -28,7 +29,7 @@ pub fn explain(case: &Case, output: &str) -> String {
         let mut texts = in_words(pair.record.as_ref(), &answer);
         match pair.record {
             Some(Record::LabelArea { size }) => lent = size as usize,
-            Some(Record::Command { .. }) if lent != LABEL_AREA => {
+            Some(Record::Command(_)) if lent != LABEL_AREA => {
                 texts.push(format!("the label area lent: {}", bytes(lent as u64)));
             }
             _ => {}
@@ -106,25 +107,31 @@ fn in_words(record: Option<&Record>, answer: &Answer) -> Vec<String> {
         Record::LabelBytes { offset, .. } => {
             vec![label_words("label store", (*offset).into(), answer)]
         }
-        Record::Command {
-            opcode,
-            payload,
-            room,
-            fill,
-            ..
-        } => {
-            let buffer = buffer(answer, u64::from(*room), *fill);
-            let injects = *opcode == opcode::INJECT_POISON && answer.has("success");
-            let vector = vector_words(answer, injects, injects);
-            let mut out = vec![command_head(*opcode, answer) + &buffer + &vector];
-            if *opcode == opcode::SET_LSA && answer.has("success") {
-                out.push(written_words(payload));
-            }
-            reply_words(*opcode, payload, answer, &mut out);
-            out
+        Record::Command(call) => {
+            let injects = call.opcode == opcode::INJECT_POISON && answer.has("success");
+            command_words(call, answer, &vector_words(answer, injects, injects))
+        }
+        Record::Pool(call) => {
+            let taken = answer.has("success") || answer.has("started");
+            let note = match taken && !Mailbox::Pool.has(call.opcode) {
+                true => "; BUT THIS MAILBOX HAS NOT THE COMMAND",
+                false => "",
+            };
+            command_words(call, answer, note)
         }
         record => host_answers::in_words(record, answer).unwrap_or_default(),
     }
+}
+
+/// What a command answered through either mailbox; `note` ends its first line.
+fn command_words(call: &Call, answer: &Answer, note: &str) -> Vec<String> {
+    let buffer = buffer(answer, u64::from(call.room), call.fill);
+    let mut out = vec![command_head(call.opcode, answer) + &buffer + note];
+    if call.opcode == opcode::SET_LSA && answer.has("success") {
+        out.push(written_words(&call.payload));
+    }
+    reply_words(call.opcode, &call.payload, answer, &mut out);
+    out
 }
 
 /// `refused: invalid input (0002h)`, or None of a call that is not refused.

@@ -27,6 +27,7 @@ impl Format {
             "total",
             "label-area",
             "label-bytes",
+            "pool",
             host_lines::KINDS[0],
             host_lines::KINDS[1],
             host_lines::KINDS[2],

@@ -6,7 +6,7 @@ use crate::bench::push_hex;
 use crate::device::numbers::{number, opcode, RECORD};
 use crate::device::EFFECTS_IDENTIFIER;
 use crate::format::Format;
-use crate::probe::record::Record;
+use crate::probe::record::{Call, Record};
 
 /// Lower-case hex of bytes; equal bytes are written as `HH*COUNT`.
 pub fn hex_text(bytes: &[u8]) -> String {
@@ -72,19 +72,8 @@ pub fn line_words(format: Format, record: &Record) -> String {
             volatile,
             persistent,
         } => format!("new {volatile} {persistent}"),
-        Record::Command {
-            time,
-            opcode,
-            room,
-            fill,
-            payload,
-        } => {
-            let mut head = format!("command time={time}");
-            if format == Format::Probe {
-                head.push_str(&format!(" room={room} fill={fill:02x}"));
-            }
-            command_words(format, &head, *opcode, payload)
-        }
+        Record::Command(call) => call_words(format, "command", call),
+        Record::Pool(call) => call_words(format, "pool", call),
         Record::Event { time, log, record } => {
             format!("event time={time} log={log} {}", event_words(record))
         }
@@ -103,6 +92,15 @@ pub fn line_words(format: Format, record: &Record) -> String {
         }
         record => host_lines::words(record),
     }
+}
+
+/// The words of a command through either mailbox.
+fn call_words(format: Format, first: &str, call: &Call) -> String {
+    let mut head = format!("{first} time={}", call.time);
+    if format == Format::Probe {
+        head.push_str(&format!(" room={} fill={:02x}", call.room, call.fill));
+    }
+    command_words(format, &head, call.opcode, &call.payload)
 }
 
 /// The bytes of an event record: equal ones by `fill`, of 128 if not said.

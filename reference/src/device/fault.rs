@@ -1,9 +1,11 @@
 //! Planted faults: errors that look reasonable, switched on one at a time to
 //! show that the generator's default seeds find them. No fault is on by itself. Those of
-//! W-207 stand in `fault/sanitize.rs`.
+//! W-207 stand in `fault/sanitize.rs`, those of W-208 in `fault/pool.rs`.
 
+pub mod pool;
 pub mod sanitize;
 
+use pool::WrongPool;
 use sanitize::{WrongDisabled, WrongEnding, WrongRow, WrongStart, WrongTime};
 
 /// One planted fault of the model or of the host's side.
@@ -118,6 +120,7 @@ pub enum Fault {
     SanitizeStart(WrongStart),
     Ending(WrongEnding),
     Disabled(WrongDisabled),
+    Pool(WrongPool),
     BytePastReply,
     BufferWrittenOnRefusal,
     RoomAfterOpcode,
@@ -1392,4 +1395,10 @@ pub const HOST_FAULTS: &[FaultLine] = &[
 pub fn of_host(fault: Fault) -> bool {
     let mut all = HOST_FAULTS.iter().chain(sanitize::HOST_FAULTS);
     all.any(|line| line.fault == fault)
+}
+
+/// Whether a fault is one of the pool manager's mailbox: it shows in no stream without one of
+/// its commands.
+pub fn of_pool(fault: Fault) -> bool {
+    pool::PROBE_FAULTS.iter().any(|line| line.fault == fault)
 }

@@ -41,24 +41,50 @@ pub mod opcode {
     pub const INJECT_POISON: u16 = 0x4301;
     pub const CLEAR_POISON: u16 = 0x4302;
     pub const SANITIZE: u16 = 0x4400;
-    /// All of them, ascending.
-    pub const ALL: [u16; 15] = [
-        GET_EVENT_RECORDS,
-        CLEAR_EVENT_RECORDS,
-        GET_POLICY,
-        SET_POLICY,
-        GET_TIMESTAMP,
-        SET_TIMESTAMP,
-        GET_SUPPORTED_LOGS,
-        GET_LOG,
-        IDENTIFY,
-        GET_LSA,
-        SET_LSA,
-        GET_POISON_LIST,
-        INJECT_POISON,
-        CLEAR_POISON,
-        SANITIZE,
+    /// A row of the list of the commands.
+    #[derive(Clone, Copy, Debug, PartialEq, Eq)]
+    pub struct Command {
+        pub code: u16,
+        /// The effect in the Command Effects Log.
+        pub effect: u16,
+        /// Whether the pool manager's mailbox has it too (W-208).
+        pub pool: bool,
+    }
+
+    const fn row(code: u16, effect: u16, pool: bool) -> Command {
+        Command { code, effect, pool }
+    }
+
+    /// All commands, ascending. "Effects: 0101h 10h, 0103h 2, 0301h 8, the rest 0"; "4103h with
+    /// effect 6" (W-206); 4400h with "effect 64h" (W-207). The pool manager's mailbox "may use
+    /// 0100h, 0102h, 0300h, 0400h, 0401h, 4000h and 4300h" (W-208).
+    pub const COMMANDS: [Command; 15] = [
+        row(GET_EVENT_RECORDS, 0, true),
+        row(CLEAR_EVENT_RECORDS, 0x10, false),
+        row(GET_POLICY, 0, true),
+        row(SET_POLICY, 2, false),
+        row(GET_TIMESTAMP, 0, true),
+        row(SET_TIMESTAMP, 8, false),
+        row(GET_SUPPORTED_LOGS, 0, true),
+        row(GET_LOG, 0, true),
+        row(IDENTIFY, 0, true),
+        row(GET_LSA, 0, false),
+        row(SET_LSA, 6, false),
+        row(GET_POISON_LIST, 0, true),
+        row(INJECT_POISON, 0, false),
+        row(CLEAR_POISON, 0, false),
+        row(SANITIZE, 0x64, false),
     ];
+    /// Their opcodes.
+    pub const ALL: [u16; 15] = {
+        let mut codes = [0; 15];
+        let mut at = 0;
+        while at < codes.len() {
+            codes[at] = COMMANDS[at].code;
+            at += 1;
+        }
+        codes
+    };
     /// The commands on the poison list.
     pub const POISON: [u16; 3] = [GET_POISON_LIST, INJECT_POISON, CLEAR_POISON];
     /// The twelve of document 01, ascending, which are those of the host's side "whatever
@@ -95,6 +121,7 @@ pub enum Refusal {
     InvalidHandle,
     InvalidPhysicalAddress,
     InjectPoisonLimit,
+    UnsupportedMailbox,
     InvalidPayloadLength,
     InvalidLog,
     ReplyBufferTooSmall,
@@ -111,6 +138,7 @@ impl Refusal {
             Refusal::InvalidHandle => 0x000e,
             Refusal::InvalidPhysicalAddress => 0x000f,
             Refusal::InjectPoisonLimit => 0x0010,
+            Refusal::UnsupportedMailbox => 0x0015,
             Refusal::InvalidPayloadLength => 0x0016,
             Refusal::InvalidLog => 0x0017,
             Refusal::ReplyBufferTooSmall => 0x0100,
@@ -125,7 +153,7 @@ impl Refusal {
     }
 }
 
-const ALL_REFUSALS: [Refusal; 10] = [
+const ALL_REFUSALS: [Refusal; 11] = [
     Refusal::InvalidInput,
     Refusal::Unsupported,
     Refusal::Busy,
@@ -133,13 +161,14 @@ const ALL_REFUSALS: [Refusal; 10] = [
     Refusal::InvalidHandle,
     Refusal::InvalidPhysicalAddress,
     Refusal::InjectPoisonLimit,
+    Refusal::UnsupportedMailbox,
     Refusal::InvalidPayloadLength,
     Refusal::InvalidLog,
     Refusal::ReplyBufferTooSmall,
 ];
 
 /// The names of the return numbers as the case tool writes them.
-pub const RETURN_NAMES: [(u64, &str); 12] = [
+pub const RETURN_NAMES: [(u64, &str); 13] = [
     (0x0000, "success"),
     (0x0001, "started"),
     (0x0002, "invalid-input"),
@@ -149,6 +178,7 @@ pub const RETURN_NAMES: [(u64, &str); 12] = [
     (0x000e, "invalid-handle"),
     (0x000f, "invalid-physical-address"),
     (0x0010, "inject-poison-limit"),
+    (0x0015, "unsupported-mailbox"),
     (0x0016, "invalid-payload-length"),
     (0x0017, "invalid-log"),
     (0x0100, "reply-buffer-too-small"),

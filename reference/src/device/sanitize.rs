@@ -254,7 +254,7 @@ impl Device {
 
     /// Ends the work if it is due at the caller's `time`. Set Timestamp moves nothing in this:
     /// "whose time" is the caller's.
-    fn end_if_due(&mut self, time: u64) {
+    pub(super) fn end_if_due(&mut self, time: u64) {
         let looked_at = match self
             .config
             .has(Fault::SanitizeTime(WrongTime::ByDeviceClock))

@@ -2,12 +2,13 @@
 //! a profile can choose handles and lines by the state they will meet.
 
 use super::labels::{get_payload, set_payload, wrong_size};
+use super::pool::some_pool_call;
 use super::reserved::spoil_clear;
 use crate::device::numbers::{opcode, MAILBOX, RECORD};
 use crate::device::poison::Entry;
 use crate::device::{Config, Device};
 use crate::format::Format;
-use crate::probe::record::{Record, MOST};
+use crate::probe::record::{Call, Record, MOST};
 use crate::probe::{Probe, Store};
 use crate::random::Random;
 
@@ -30,6 +31,8 @@ pub struct Builder {
     /// A probe stream asks event status and damage total after one call of so
     /// many.
     asking: u64,
+    /// A probe stream has a command of the pool manager's mailbox after one call of so many.
+    between: u64,
     probe: Probe,
     out: Vec<u8>,
     time: u64,
@@ -47,6 +50,7 @@ impl Builder {
             format,
             extras: Random::new(!seed),
             asking: 10,
+            between: 16,
             probe: Probe::new(Config::default()),
             out: Vec::new(),
             time: 0,
@@ -72,6 +76,11 @@ impl Builder {
     /// Event status and damage total are asked after every call from now on.
     pub fn ask_always(&mut self) {
         self.asking = 1;
+    }
+
+    /// A command of the pool manager's mailbox comes after every second call from now on.
+    pub fn pool_often(&mut self) {
+        self.between = 2;
     }
 
     /// Sets the number of records of a looping profile, unless one was given.
@@ -118,6 +127,16 @@ impl Builder {
         if self.extras.one_in(self.asking) {
             self.ask();
         }
+        if self.extras.one_in(self.between) {
+            self.pool_between();
+        }
+    }
+
+    /// A command of the pool manager's mailbox, in a probe stream. W-208: "any number of them, put
+    /// between the first mailbox's calls, alter no answer of those".
+    fn pool_between(&mut self) {
+        let call = some_pool_call(&mut self.extras, self.probe.device(), self.time);
+        self.append_extra(&Record::Pool(call));
     }
 
     /// Event status and damage total, in a probe stream.
@@ -204,12 +223,14 @@ impl Builder {
         let fill = self.any_fill();
         // First at times in a room that is too small: refused, and the device
         // is as it was.
-        let command = |room: u16| Record::Command {
-            time,
-            opcode,
-            room,
-            fill,
-            payload: payload.clone(),
+        let command = |room: u16| {
+            Record::Command(Call {
+                time,
+                opcode,
+                room,
+                fill,
+                payload: payload.clone(),
+            })
         };
         if self.extras.one_in(12) {
             let room = self.extras.pick(&[0, 1, 2046, 2047]);
@@ -220,6 +241,7 @@ impl Builder {
             let size = self.labels().lent().len() as u32;
             let wrong = wrong_size(&mut self.extras);
             self.label_area(wrong);
+            self.pool_between();
             self.append_extra(&command(MAILBOX as u16));
             self.label_area(size);
         }
@@ -235,13 +257,24 @@ impl Builder {
     }
 
     pub fn command_in_at(&mut self, time: u64, room: u16, fill: u8, opcode: u16, payload: Vec<u8>) {
-        self.push(Record::Command {
+        self.push(Record::Command(Call {
             time,
             opcode,
             room,
             fill,
             payload,
-        });
+        }));
+    }
+
+    /// A command of the pool manager's mailbox at this time, once.
+    pub fn pool_at(&mut self, time: u64, room: u16, fill: u8, opcode: u16, payload: Vec<u8>) {
+        self.push(Record::Pool(Call {
+            time,
+            opcode,
+            room,
+            fill,
+            payload,
+        }));
     }
 
     /// A fill: 0, 255 or any.

@@ -6,7 +6,7 @@ use super::labels;
 use super::reserved::{some_settings, spoil_clear};
 use crate::device::numbers::opcode;
 use crate::device::EFFECTS_IDENTIFIER;
-use crate::probe::record::Record;
+use crate::probe::record::{Call, Record};
 
 /// A payload that is right for the opcode in most cases.
 pub fn plausible_payload(b: &mut Builder, code: u16) -> Vec<u8> {
@@ -85,14 +85,27 @@ pub fn wrong_lengths(b: &mut Builder) {
     }
     b.show();
     // A length over the limit ends the stream as bad.
-    let long = b.bytes_of(&Record::Command {
+    let long = b.bytes_of(&Record::Command(Call {
         time: 0,
         opcode: opcode::GET_TIMESTAMP,
         room: 2048,
         fill: 0,
         payload: vec![0; most + 1],
-    });
+    }));
     b.push_bytes(&long);
+}
+
+/// Opcodes that are near a command's: those beside it and those that share a part of it.
+pub(super) fn neighbours(code: u16) -> [u16; 7] {
+    [
+        code.wrapping_sub(1),
+        code + 1,
+        code.swap_bytes(),
+        code ^ 0x8000,
+        code ^ 0x0080,
+        code & 0xff,
+        code & 0xff00,
+    ]
 }
 
 /// Every opcode of 16 bits once, those near the commands with payloads too.
@@ -102,16 +115,7 @@ pub fn unknown_opcodes(b: &mut Builder) {
         b.event(log);
     }
     for code in opcode::ALL {
-        let near = [
-            code.wrapping_sub(1),
-            code + 1,
-            code.swap_bytes(),
-            code ^ 0x8000,
-            code ^ 0x0080,
-            code & 0xff,
-            code & 0xff00,
-        ];
-        for near in near {
+        for near in neighbours(code) {
             let payload = plausible_payload(b, code);
             b.command(near, payload);
             let length = b.random.pick(&[0, 1, 8, 16, 24, 72, 2048]);

@@ -5,16 +5,18 @@ use super::commands::plausible_payload;
 use crate::device::numbers::{opcode, RECORD};
 use crate::device::EFFECTS_IDENTIFIER;
 use crate::host::request::Request;
-use crate::probe::record::{Record, MOST};
+use crate::probe::record::{Call, Record, MOST};
 
 /// One record of each kind that bench has too.
 fn one_of_each(b: &mut Builder) -> Vec<Record> {
-    let mut command = |opcode, length| Record::Command {
-        time: b.random.bits(),
-        opcode,
-        room: 2048,
-        fill: 0x5a,
-        payload: b.random.bytes(length),
+    let mut command = |opcode, length| {
+        Record::Command(Call {
+            time: b.random.bits(),
+            opcode,
+            room: 2048,
+            fill: 0x5a,
+            payload: b.random.bytes(length),
+        })
     };
     let commands = [
         command(opcode::GET_TIMESTAMP, 0),
@@ -152,14 +154,24 @@ type Bad = fn(&mut Builder, &[Record], usize);
 
 /// The kinds of bad probe streams, with the number of streams of each.
 const PROBE_KINDS: [(usize, Bad); 6] = [
-    (10 + 8 + 2, wrong_first),
+    (10 + 8 + 3, wrong_first),
     (3 * UNKNOWN.len(), unknown_mark),
-    (27, over_limit),
+    (9 * OVER_LIMIT.len(), over_limit),
     (3 * REQUEST_SIZES.len(), request_sizes),
-    (6, cut_great),
+    (8, cut_great),
     // One of each record, and a later NW.
     (
-        6 + 17 + 25 + 141 + 23 + 10 + 2 + 2 + (15 + 13 + 31 + 79 + 7 + 18 + 21 + 23) + (6 + 6) + 6,
+        6 + 17
+            + 25
+            + 141
+            + 23
+            + 10
+            + 2
+            + 2
+            + (15 + 13 + 31 + 79 + 7 + 18 + 21 + 23)
+            + (6 + 6)
+            + 25
+            + 6,
         cut,
     ),
 ];
@@ -187,6 +199,7 @@ pub fn probe(b: &mut Builder, part: usize) {
             length: 2,
         },
     ]);
+    records.push(a_pool_command(b));
     records.push(later);
     let mut part = part % PROBE_STREAMS;
     for (streams, make) in PROBE_KINDS {
@@ -195,6 +208,17 @@ pub fn probe(b: &mut Builder, part: usize) {
         }
         part -= streams;
     }
+}
+
+/// A command of the pool manager's mailbox (W-208).
+fn a_pool_command(b: &mut Builder) -> Record {
+    Record::Pool(Call {
+        time: b.random.bits(),
+        opcode: opcode::SET_TIMESTAMP,
+        room: 2048,
+        fill: 0x5a,
+        payload: b.random.bytes(8),
+    })
 }
 
 /// Records of the host's side, among them requests with every form of fields.
@@ -268,7 +292,7 @@ fn wrong_first(b: &mut Builder, records: &[Record], part: usize) {
 const UNKNOWN: [&[u8; 2]; 31] = [
     b"ar",
     b"ab",
-    b"PC",
+    b"pc",
     b"TT",
     b"UM",
     b"DB",
@@ -312,17 +336,29 @@ fn unknown_mark(b: &mut Builder, records: &[Record], part: usize) {
     }
 }
 
+/// The sizes that are at most 4,096: the place of the record in the list of one of each, the
+/// offset of the size in it and that of the bytes after the head, and whether the size is that
+/// of those bytes.
+const OVER_LIMIT: [(usize, usize, usize, bool); 5] = [
+    (2, 12, 17, false),
+    (2, 15, 17, true),
+    (3, 11, 13, true),
+    (POOL_PLACE, 12, 17, false),
+    (POOL_PLACE, 15, 17, true),
+];
+/// The place of the pool manager's command in the list of one of each, before the later NW.
+const POOL_PLACE: usize = 18;
+
 /// A room, payload length or record length over 4,096, with the bytes after the
 /// head whole, half or not there.
 fn over_limit(b: &mut Builder, records: &[Record], part: usize) {
     some_records(b);
-    // The record, the offset of the size in it and that of the bytes after it.
-    let (record, at, head) = [(2, 12, 17), (2, 15, 17), (3, 11, 13)][part / 9];
+    let (record, at, head, counts) = OVER_LIMIT[part / 9];
     let over = [4097u16, 32768, 65535][part / 3 % 3];
     let mut bytes = b.bytes_of(&records[record]);
-    let whole = match part / 9 {
-        0 => bytes.len() - head,
-        _ => over.into(),
+    let whole = match counts {
+        true => over.into(),
+        false => bytes.len() - head,
     };
     bytes[at..at + 2].copy_from_slice(&over.to_le_bytes());
     bytes.resize(head + [whole, whole / 2, 0][part % 3], 0);
@@ -381,23 +417,26 @@ fn request_sizes(b: &mut Builder, records: &[Record], part: usize) {
     push_record(b, &records[0]);
 }
 
-/// A payload, a record and a reply of 4,096 bytes, cut in the middle and before the last.
+/// A payload of both mailboxes, a record and a reply of 4,096 bytes, cut in the middle and
+/// before the last.
 fn cut_great(b: &mut Builder, _: &[Record], part: usize) {
     some_records(b);
     let great = b.random.bytes(MOST);
+    let call = |payload| Call {
+        time: 0,
+        opcode: opcode::IDENTIFY,
+        room: 4096,
+        fill: 0,
+        payload,
+    };
     let record = match part / 2 {
-        0 => Record::Command {
-            time: 0,
-            opcode: opcode::IDENTIFY,
-            room: 4096,
-            fill: 0,
-            payload: great,
-        },
+        0 => Record::Command(call(great)),
         1 => Record::Event {
             time: 0,
             log: 0,
             record: great,
         },
+        2 => Record::Pool(call(great)),
         _ => Record::Reply {
             opcode: opcode::GET_LOG,
             asked: MOST as u32,

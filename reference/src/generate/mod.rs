@@ -9,6 +9,7 @@ pub mod interrupts;
 pub mod labels;
 pub mod malformed;
 pub mod poison;
+pub mod pool;
 pub mod probe;
 pub mod reserved;
 pub mod sanitize;
@@ -366,7 +367,7 @@ pub const PROBE_PROFILES: &[Profile] = &[
         "malformed",
         malformed::PROBE_STREAMS,
         malformed::probe,
-        "bad streams of every kind, marks of later requests, a cut at every place (702 streams)",
+        "bad streams of every kind, marks of later requests, a cut at every place (748 streams)",
     ),
     one(
         "label-areas",
@@ -387,6 +388,36 @@ pub const PROBE_PROFILES: &[Profile] = &[
         "sanitize-makes",
         sanitize::makes,
         "makes, walks, event sizes, status and total during the work of a Sanitize",
+    ),
+    one(
+        "pool-replies",
+        pool::replies,
+        "each of the seven commands through both mailboxes on devices of every state",
+    ),
+    one(
+        "pool-order",
+        pool::order,
+        "rooms, payload lengths, opcodes and own refusals together at the pool's mailbox",
+    ),
+    one(
+        "pool-opcodes",
+        pool::opcodes,
+        "every opcode at the pool's mailbox, every length of 0 to 25 and some great ones",
+    ),
+    one(
+        "pool-get-log",
+        pool::get_log,
+        "Get Log at the ends of both effects logs through both mailboxes, wrong identifiers",
+    ),
+    one(
+        "pool-sanitize",
+        pool::about_due,
+        "pool commands before, at and after a due time, then each call of the first mailbox",
+    ),
+    one(
+        "pool-silence",
+        pool::silence,
+        "many pool commands between all other calls, makes and areas of wrong sizes included",
     ),
     one(
         "everything",
@@ -424,7 +455,7 @@ pub const PROBE_PROFILES: &[Profile] = &[
 /// Seeds `compare` runs where none are given: two rounds of [`SEED_ROUND`].
 pub const DEFAULT_SEEDS: std::ops::Range<u64> = 0..2 * SEED_ROUND;
 /// Each large profile is chosen by one seed of a round.
-const SEED_ROUND: u64 = 222;
+const SEED_ROUND: u64 = 229;
 
 /// Every profile of a format.
 pub fn profiles(format: Format) -> Vec<&'static Profile> {

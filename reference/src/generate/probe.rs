@@ -43,7 +43,7 @@ fn busy_logs(b: &mut Builder) {
 }
 
 /// A list of many entries, at times a full one with lines dropped.
-fn busy_list(b: &mut Builder) {
+pub(super) fn busy_list(b: &mut Builder) {
     let region = region(b, 256 * 6);
     let held = b.random.pick(&[127, 200, 256, 256]);
     fill(b, &region, held, 4);
@@ -52,7 +52,7 @@ fn busy_list(b: &mut Builder) {
 }
 
 /// The payload of Get Poison List for the whole device.
-fn whole_list(b: &Builder) -> Vec<u8> {
+pub(super) fn whole_list(b: &Builder) -> Vec<u8> {
     let mut payload = vec![0; 8];
     payload.extend(b.device_lines().to_le_bytes());
     payload
@@ -136,7 +136,13 @@ pub fn refusal_order(b: &mut Builder) {
 
 /// A payload of the right length that the command's own checks often refuse.
 fn refused_payload(b: &mut Builder, code: u16) -> Vec<u8> {
-    let mut payload = plausible_payload(b, code);
+    let payload = plausible_payload(b, code);
+    with_other_first(b, payload)
+}
+
+/// A payload with another first byte at times, which is a log's number or the low byte of an
+/// address.
+pub(super) fn with_other_first(b: &mut Builder, mut payload: Vec<u8>) -> Vec<u8> {
     if let Some(first) = payload.first_mut() {
         *first = b.random.pick(&[5, 1, 0xff, *first]);
     }

@@ -80,10 +80,21 @@ fn some_clear(b: &mut Builder, log: u8) -> Vec<u8> {
     }
 }
 
+/// Each reserved place alone in a clear of a log that is not there.
+fn wrong_log_clears(b: &mut Builder) {
+    let bits = (1..8).map(|bit| (1, 1 << bit));
+    for (place, value) in bits.chain((3..6).map(|place| (place, 0x80))) {
+        let mut payload = clear_payload(b.random.pick_log_above_4(), 0, &[1]);
+        payload[place] = value;
+        b.command(opcode::CLEAR_EVENT_RECORDS, payload);
+    }
+}
+
 /// Clears with something reserved set, then often the same ones without, of logs that are
 /// empty, in part full, full and overflown.
 pub fn reserved(b: &mut Builder) {
     b.any_device();
+    wrong_log_clears(b);
     while b.more() {
         let log = b.random.below(5) as u8;
         for _ in 0..b.random.pick(&[0, 0, 1, 3, 8, 10]) {

@@ -33,13 +33,13 @@ fn sanitize_at(b: &mut Builder, time: u64) {
 
 /// A Sanitize at this time, or earlier where its due time could not be reached from it: media
 /// would stay disabled to the end of the stream.
-fn sanitize_in_reach(b: &mut Builder, time: u64) {
+pub(super) fn sanitize_in_reach(b: &mut Builder, time: u64) {
     let latest = u64::MAX - b.device().work_length();
     sanitize_at(b, time.min(latest));
 }
 
 /// Starts a work whose due time can be reached. One that runs is ended by it.
-fn start(b: &mut Builder) {
+pub(super) fn start(b: &mut Builder) {
     let begin = match b.due() {
         Some(due) => due,
         None => some_begin(b),
@@ -49,7 +49,7 @@ fn start(b: &mut Builder) {
 
 /// A caller's time at which the work that runs is not due: from its beginning to one nanosecond
 /// before its end, or before the beginning.
-fn time_before(b: &mut Builder) -> u64 {
+pub(super) fn time_before(b: &mut Builder) -> u64 {
     let Some(work) = b.device().work().copied() else {
         return b.tick();
     };
@@ -72,7 +72,7 @@ fn time_before(b: &mut Builder) -> u64 {
 }
 
 /// A caller's time at which the work that runs is due, most often the first one.
-fn time_due(b: &mut Builder) -> u64 {
+pub(super) fn time_due(b: &mut Builder) -> u64 {
     let Some(due) = b.due() else {
         return b.tick();
     };
@@ -102,12 +102,12 @@ fn fill_log(b: &mut Builder, log: u8) {
 }
 
 /// Records in all logs.
-fn fill_logs(b: &mut Builder) {
+pub(super) fn fill_logs(b: &mut Builder) {
     (0..5).for_each(|log| fill_log(b, log));
 }
 
 /// Line tests of a covered and an uncovered line, at times of refused addresses.
-fn line_tests(b: &mut Builder, region: &Region) {
+pub(super) fn line_tests(b: &mut Builder, region: &Region) {
     let (covered, free) = (covered_line(b, region), free_line(b, region));
     b.line(covered * 64);
     b.line(free * 64);
@@ -255,7 +255,7 @@ fn refused_call(b: &mut Builder, region: &Region, kind: u64, time: u64) {
 }
 
 /// Any call, taken or refused.
-fn any_call(b: &mut Builder, region: &Region, time: u64) {
+pub(super) fn any_call(b: &mut Builder, region: &Region, time: u64) {
     match b.random.one_in(3) {
         true => {
             let kind = b.random.below(REFUSED);
@@ -266,7 +266,7 @@ fn any_call(b: &mut Builder, region: &Region, time: u64) {
 }
 
 /// A call of one of the three kinds that carry a time: event report, media report, command.
-fn call_of_kind(b: &mut Builder, region: &Region, kind: usize, time: u64) {
+pub(super) fn call_of_kind(b: &mut Builder, region: &Region, kind: usize, time: u64) {
     match kind {
         0 => {
             let log = b.random.below(6) as u8;

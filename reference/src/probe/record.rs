@@ -14,6 +14,31 @@ pub const MOST: usize = 4096;
 /// "a store of 8,192 bytes": the most that `AR` lends and where `AB` ends (W-206).
 pub const LABEL_STORE: usize = 8192;
 
+/// The fields of `CM`, and of `PC`, which are "as `CM`" (W-208).
+#[derive(Clone, Debug, PartialEq, Eq)]
+pub struct Call {
+    pub time: u64,
+    pub opcode: u16,
+    pub room: u16,
+    pub fill: u8,
+    pub payload: Vec<u8>,
+}
+
+impl Call {
+    fn encode(&self, out: &mut Vec<u8>) {
+        out.extend(self.time.to_le_bytes());
+        out.extend(self.opcode.to_le_bytes());
+        out.extend(self.room.to_le_bytes());
+        out.push(self.fill);
+        sized(&self.payload, out);
+    }
+
+    /// The buffer lent: "`room` bytes, each of them `fill` before the call".
+    pub fn buffer(&self) -> Vec<u8> {
+        vec![self.fill; self.room.into()]
+    }
+}
+
 /// One record of a probe stream.
 #[derive(Clone, Debug, PartialEq, Eq)]
 pub enum Record {
@@ -21,13 +46,7 @@ pub enum Record {
         volatile: u16,
         persistent: u16,
     },
-    Command {
-        time: u64,
-        opcode: u16,
-        room: u16,
-        fill: u8,
-        payload: Vec<u8>,
-    },
+    Command(Call),
     Event {
         time: u64,
         log: u8,
@@ -80,6 +99,8 @@ pub enum Record {
         offset: u16,
         length: u16,
     },
+    /// W-208: a command through the pool manager's mailbox.
+    Pool(Call),
 }
 
 impl Record {
@@ -87,7 +108,7 @@ impl Record {
     pub fn mark(&self) -> &'static str {
         match self {
             Record::New { .. } => "NW",
-            Record::Command { .. } => "CM",
+            Record::Command(_) => "CM",
             Record::Event { .. } => "EV",
             Record::Media { .. } => "MD",
             Record::Line { .. } => "LT",
@@ -99,6 +120,7 @@ impl Record {
             Record::Walk { .. } => "WK",
             Record::LabelArea { .. } => "AR",
             Record::LabelBytes { .. } => "AB",
+            Record::Pool(_) => "PC",
         }
     }
 
@@ -109,19 +131,7 @@ impl Record {
         }
         out.extend(self.mark().as_bytes());
         match self {
-            Record::Command {
-                time,
-                opcode,
-                room,
-                fill,
-                payload,
-            } => {
-                out.extend(time.to_le_bytes());
-                out.extend(opcode.to_le_bytes());
-                out.extend(room.to_le_bytes());
-                out.push(*fill);
-                sized(payload, out);
-            }
+            Record::Command(call) | Record::Pool(call) => call.encode(out),
             Record::Event { time, log, record } => {
                 out.extend(time.to_le_bytes());
                 out.push(*log);
@@ -191,12 +201,12 @@ impl Record {
                 volatile,
                 persistent,
             }),
-            Record::Command {
+            Record::Command(Call {
                 time,
                 opcode,
                 payload,
                 ..
-            } => Some(stream::Record::Command {
+            }) => Some(stream::Record::Command {
                 time,
                 opcode,
                 payload,
@@ -250,7 +260,8 @@ impl<R: BufRead> Reader<R> {
                 return Ok(None);
             }
             match &mark {
-                b"CM" => command(source),
+                b"CM" => Ok(call(source)?.map(Record::Command)),
+                b"PC" => Ok(call(source)?.map(Record::Pool)),
                 b"EV" => event(source),
                 b"ES" => Ok(Some(Record::Status)),
                 b"DT" => Ok(Some(Record::Total)),
@@ -281,13 +292,13 @@ impl From<stream::Record> for Record {
                 time,
                 opcode,
                 payload,
-            } => Record::Command {
+            } => Record::Command(Call {
                 time,
                 opcode,
                 room: MAILBOX as u16,
                 fill: 0,
                 payload,
-            },
+            }),
             stream::Record::Event { time, log, record } => Record::Event { time, log, record },
             stream::Record::Media {
                 time,
@@ -305,8 +316,9 @@ impl From<stream::Record> for Record {
     }
 }
 
-/// A CM record after its mark, or None if cut or with a size over its limit.
-fn command<R: BufRead>(source: &mut Source<R>) -> io::Result<Option<Record>> {
+/// A CM or PC record after its mark, or None if cut or with a size over its limit: "every room
+/// but `WK`'s and the payload length of `PC` at most 4,096".
+fn call<R: BufRead>(source: &mut Source<R>) -> io::Result<Option<Call>> {
     let Some(head) = source.fields::<15>()? else {
         return Ok(None);
     };
@@ -315,7 +327,7 @@ fn command<R: BufRead>(source: &mut Source<R>) -> io::Result<Option<Record>> {
         return Ok(None);
     }
     let payload = block_of(source, &head[13..])?;
-    Ok(payload.map(|payload| Record::Command {
+    Ok(payload.map(|payload| Call {
         time: number(&head[..8]),
         opcode: number(&head[8..10]) as u16,
         room,

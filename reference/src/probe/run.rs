@@ -1,6 +1,7 @@
 //! Document 10: records in, a line for each out, every answer whole.
 
-use super::record::{Reader, Record, LABEL_STORE};
+use super::record::{Call, Reader, Record, LABEL_STORE};
+use crate::device::fault::pool::WrongPool;
 use crate::device::fault::sanitize::WrongDisabled;
 use crate::device::logs::Reported;
 use crate::device::numbers::{number_of, Refusal, LABEL_AREA};
@@ -72,23 +73,19 @@ impl Probe {
                 volatile,
                 persistent,
             } => self.make(*volatile, *persistent),
-            Record::Command {
-                time,
-                opcode,
-                room,
-                fill,
-                payload,
-            } => {
-                let mut buffer = vec![*fill; usize::from(*room)];
+            Record::Command(call) => {
+                let mut buffer = call.buffer();
                 let labels = self.labels.lent_mut(self.config);
                 let device = &mut self.device;
-                let answer = device.command(*opcode, payload, *time, labels, &mut buffer);
+                let answer =
+                    device.command(call.opcode, &call.payload, call.time, labels, &mut buffer);
                 if self.config.has(Fault::AreaForOneCommand) {
                     self.labels.size = LABEL_AREA;
                 }
-                self.answer((answer.number, answer.length), &buffer, *fill);
+                self.answer((answer.number, answer.length), &buffer, call.fill);
                 self.vector(answer.vector);
             }
+            Record::Pool(call) => self.pool_command(call),
             Record::Event { time, log, record } => self.event(*time, *log, record),
             Record::Media {
                 time,
@@ -170,6 +167,39 @@ impl Probe {
             _ => {}
         }
         self.line.number(number_of(&answer));
+    }
+
+    /// "`PC code length bytes kept`: the second mailbox", which is lent no label area and
+    /// leaves the device as it is (W-208). "`PC` has no vector column."
+    fn pool_command(&mut self, call: &Call) {
+        let mut buffer = call.buffer();
+        let answer = match self.pool_is(WrongPool::ByLentArea) && self.labels.size != LABEL_AREA {
+            true => (Refusal::ReplyBufferTooSmall.number(), 0),
+            false => self
+                .device
+                .pool_command(call.opcode, &call.payload, call.time, &mut buffer),
+        };
+        self.answer(answer, &buffer, call.fill);
+        if let Some(Fault::Pool(wrong)) = self.config.fault {
+            self.after_pool(wrong, call, answer.0);
+        }
+    }
+
+    /// The planted faults of what a pool command leaves behind, and of its line.
+    fn after_pool(&mut self, wrong: WrongPool, call: &Call, number: u16) {
+        match wrong {
+            WrongPool::HasVectorColumn => self.vector(None),
+            WrongPool::ClearsStore => self.labels.bytes.fill(0),
+            WrongPool::Lends4096 => self.labels.size = LABEL_AREA,
+            _ => self
+                .device
+                .after_pool(wrong, call.opcode, &call.payload, call.time, number),
+        }
+    }
+
+    /// Whether this planted fault of the pool's mailbox is on.
+    fn pool_is(&self, wrong: WrongPool) -> bool {
+        self.config.has(Fault::Pool(wrong))
     }
 
     /// "the length answered, the first `length` bytes of the buffer, and 1 if

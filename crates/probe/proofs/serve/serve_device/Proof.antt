@@ -7,7 +7,7 @@ use lib.ListN.{length}
 use Rattle.protocol.specs.Records.{mark-of}
 use Rattle.protocol.proofs.Laws.{puts-nothing}
 use Rattle.protocol.specs.Formats.{probe-least}
-use Rattle.probe.proofs.CallLaws.{taken, by-new, by-event, by-media, by-line, by-status, by-total, by-request, by-reply, by-again, by-walk, by-none}
+use Rattle.probe.proofs.CallLaws.{taken, by-new, by-event, by-media, by-line, by-status, by-total, by-request, by-reply, by-again, by-walk, by-pool, by-none}
 use Rattle.probe.proofs.serve.serve_device.Statement.{statement}
 use Rattle.probe.proofs.serve.serve_device.Tie as tie
 
@@ -210,12 +210,44 @@ returns-10 c =
     let s = c .before .before .before .before .before .before .before .before .before .before .before .before .before in
     by-walk _ (s .args .bytes .now) (marked (c .before .before .before .before .before .before .before .before .before) 0x574B (c .before .before .before .before .before .before .before .before .match .keys10)) (c .before .before .before .before .walk .ensures)
 
+get-requires-4 : tie.Need-get-requires-4
+unfolding probe-least
+get-requires-4 c κs = let all = long (c .before) 0x5043 (c .match .keys11) in (omega (arith, all), omega arith)
+
+pool-room : (c : tie.After-get4) → c .get4 .result ≤ length (c .before .before .before .before .before .before .args .reply .now)
+pool-room c = omega (arith, c .get4 .ensures .value, c .before .before .before .before .before .before .pre .1 .pool (marked (c .before .before) 0x5043 (c .before .match .keys11)), c .before .before .before .before .before .before .pre .2)
+
+slice-relend-prefix-pool : tie.Need-slice-relend-prefix-pool
+slice-relend-prefix-pool c = pool-room c
+
+slice-aggregate-pool : tie.Need-slice-aggregate-pool
+slice-aggregate-pool c = sym (taken (c .before .get4 .result) (c .before .before .before .before .before .before .before .args .reply .now) (pool-room (c .before)))
+
+pool-requires : tie.Need-pool-requires
+unfolding probe-least
+pool-requires c κs =
+    let s = c .before .before .before .before .before .before .before .before in
+    let m = c .before .before .before .before in
+    let key = c .before .before .before .match .keys11 in
+    (s .pre .0, long m 0x5043 key, taken (c .before .before .get4 .result) (s .args .reply .now) (pool-room (c .before .before)) ∙ c .before .before .get4 .ensures .value, s .pre .1 .pool (marked m 0x5043 key), s .pre .3)
+
+same-length-14 : tie.Need-same-length-14
+same-length-14 c = search needs
+
+same-length-15 : tie.Need-same-length-15
+same-length-15 c = search needs
+
 returns-11 : tie.Need-returns-11
 returns-11 c =
+    let s = c .before .before .before .before .before .before .before .before .before .before .before .before .before in
+    by-pool _ (s .args .bytes .now) (marked (c .before .before .before .before .before .before .before .before .before) 0x5043 (c .before .before .before .before .before .before .before .before .match .keys11)) (c .before .before .before .before .pool .ensures)
+
+returns-12 : tie.Need-returns-12
+returns-12 c =
     let s = c .before .before .before .before .before in
     let m = c .before in
     let rest = c .match .rest in
-    by-none (s .args .bytes .now) (λ e. rest .0 .0 .0 .0 .0 .0 .0 .0 .0 .1 (m .mark .ensures ∙ e)) (λ e. rest .0 .0 .0 .0 .0 .0 .0 .0 .1 (m .mark .ensures ∙ e)) (λ e. rest .0 .0 .0 .0 .0 .0 .0 .1 (m .mark .ensures ∙ e)) (λ e. rest .0 .0 .0 .0 .0 .0 .1 (m .mark .ensures ∙ e)) (λ e. rest .0 .0 .0 .0 .0 .1 (m .mark .ensures ∙ e)) (λ e. rest .0 .0 .0 .0 .1 (m .mark .ensures ∙ e)) (λ e. rest .0 .0 .0 .1 (m .mark .ensures ∙ e)) (λ e. rest .0 .0 .1 (m .mark .ensures ∙ e)) (λ e. rest .0 .1 (m .mark .ensures ∙ e)) (λ e. rest .1 (m .mark .ensures ∙ e)) (s .pre .0)
+    by-none (s .args .bytes .now) (λ e. rest .0 .0 .0 .0 .0 .0 .0 .0 .0 .0 .1 (m .mark .ensures ∙ e)) (λ e. rest .0 .0 .0 .0 .0 .0 .0 .0 .0 .1 (m .mark .ensures ∙ e)) (λ e. rest .0 .0 .0 .0 .0 .0 .0 .0 .1 (m .mark .ensures ∙ e)) (λ e. rest .0 .0 .0 .0 .0 .0 .0 .1 (m .mark .ensures ∙ e)) (λ e. rest .0 .0 .0 .0 .0 .0 .1 (m .mark .ensures ∙ e)) (λ e. rest .0 .0 .0 .0 .0 .1 (m .mark .ensures ∙ e)) (λ e. rest .0 .0 .0 .0 .1 (m .mark .ensures ∙ e)) (λ e. rest .0 .0 .0 .1 (m .mark .ensures ∙ e)) (λ e. rest .0 .0 .1 (m .mark .ensures ∙ e)) (λ e. rest .0 .1 (m .mark .ensures ∙ e)) (λ e. rest .1 (m .mark .ensures ∙ e)) (s .pre .0)
     (record { puts = puts-nothing _ _ (omega (arith, s .pre .3)); room = omega (arith, s .pre .3) })
 
 pub serve-device-spec : {M : Type 1} → statement M
@@ -242,6 +274,10 @@ serve-device-spec =
     slice-relend-prefix-walk
     slice-aggregate-walk
     walk-requires
+    get-requires-4
+    slice-relend-prefix-pool
+    slice-aggregate-pool
+    pool-requires
     same-length
     returns
     same-length-2
@@ -265,4 +301,7 @@ serve-device-spec =
     same-length-12
     same-length-13
     returns-10
-    returns-11)
+    same-length-14
+    same-length-15
+    returns-11
+    returns-12)

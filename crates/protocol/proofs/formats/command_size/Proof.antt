@@ -1,37 +1,29 @@
 -- `protocol::formats::command_size` meets its contract. Assumes nothing.
 use mathlib.Core.Path.{ap, ap₂, _∙_}
 use mathlib.Core.Bool.{Bool, _&&_}
-use Prim.Native.Nat.{ℕ, _+_, _≤_}
+use Prim.Native.Nat.{ℕ, _+_}
 use lib.ListN.{length}
 use native.Mathlib.Omega.{arith}
 use borrow.Author.Needs.{needs}
 use borrow.Author.Tests.{le-leb, lt-leb}
 use Rattle.wire.specs.Wire.{field}
-use Rattle.protocol.specs.declared.formats.Format.the-variants.{Probe}
-use Rattle.protocol.specs.Records.{mark-of, CM}
 use Rattle.protocol.specs.HostFormats.{within}
-use Rattle.protocol.specs.Formats.{probe-least, probe-fixed, fixed}
-use Rattle.protocol.proofs.FormatLaws.{head-long, size-over, size-within, command-within, command-rest}
+use Rattle.protocol.proofs.FormatLaws.{size-over, size-within, command-within, command-rest}
 use Rattle.protocol.proofs.formats.command_size.Statement.{statement}
 use Rattle.protocol.proofs.formats.command_size.Tie as tie
 
--- the head has its fields
-long : (s : tie.Start) → 17 ≤ length (s .args .head .now)
-unfolding fixed probe-fixed probe-least
-long s = head-long Probe (s .args .head .now) (mark-of CM) (s .pre .0 .part) (s .pre .1)
-
 get-requires : tie.Need-get-requires
-get-requires c κs = let fits = long (c .before) in (omega arith, omega arith)
+get-requires c κs = let fits = c .before .pre .1 in (omega arith, omega arith)
 
 get-requires-2 : tie.Need-get-requires-2
-get-requires-2 c κs = let fits = long (c .before .before) in (omega arith, omega arith)
+get-requires-2 c κs = let fits = c .before .before .pre .1 in (omega arith, omega arith)
 
 returns : tie.Need-returns
 returns c =
     let s = c .before .before .before .before in
     let h = s .args .head .now in
     let room = lt-leb (field h 12 2) 4096 (omega (arith, c .before .before .get .ensures .value, c .if1 .taken)) in
-    (size-over h (command-within h (s .pre .1) ∙ ap (λ (t : Bool). t && within (field h 15 2)) room), omega arith)
+    (size-over h (command-within h (s .pre .2) ∙ ap (λ (t : Bool). t && within (field h 15 2)) room), omega arith)
 
 returns-2 : tie.Need-returns-2
 returns-2 c =
@@ -39,7 +31,7 @@ returns-2 c =
     let h = s .args .head .now in
     let room = le-leb (field h 12 2) 4096 (omega (arith, c .before .before .before .get .ensures .value, c .before .if1 .left)) in
     let payload = lt-leb (field h 15 2) 4096 (omega (arith, c .before .before .get2 .ensures .value, c .if2 .taken)) in
-    (size-over h (command-within h (s .pre .1) ∙ ap₂ _&&_ room payload), omega arith)
+    (size-over h (command-within h (s .pre .2) ∙ ap₂ _&&_ room payload), omega arith)
 
 add-result : tie.Need-add-result
 add-result c = search needs
@@ -51,7 +43,7 @@ returns-3 c =
     let payload = c .before .before .get2 .ensures .value in
     let room = le-leb (field h 12 2) 4096 (omega (arith, c .before .before .before .get .ensures .value, c .before .if1 .left)) in
     let few = le-leb (field h 15 2) 4096 (omega (arith, payload, c .if2 .left)) in
-    let sized = size-within h (command-within h (s .pre .1) ∙ ap₂ _&&_ room few) (command-rest h (s .pre .1)) in
+    let sized = size-within h (command-within h (s .pre .2) ∙ ap₂ _&&_ room few) (command-rest h (s .pre .2)) in
     (ap (λ (k : ℕ). length h + k) payload ∙ sized, omega (arith, c .if2 .left, s .pre .0 .part .most))
 
 pub command-size-spec : {M : Type 1} → statement M
