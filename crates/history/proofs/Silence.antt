@@ -4,9 +4,19 @@ use mathlib.Core.Path.{_≡_, refl, sym, ap, ap₂, _∙_}
 use mathlib.Core.Bool.{Bool, true, false, cond, false≢true}
 use mathlib.Core.List.{List, [], _∷_, map}
 use Prim.Native.Nat.{ℕ}
+use lib.ListN.{length}
 use Rattle.poison.specs.Paper.{Paper, blank-paper}
 use Rattle.mailbox.specs.State.{DeviceState, state-of}
+use Rattle.mailbox.specs.Outcome.{Outcome}
+use Rattle.mailbox.specs.Mailbox.{outcome}
+use Rattle.mailbox.specs.Ending.{AfterEnding}
+use Rattle.mailbox.specs.Contracts.{Answered, LineDone}
+use Rattle.mailbox.specs.LineStatus.{status-number, status-type}
 use Rattle.mailbox.specs.DeviceCalls as Device
+use Rattle.mailbox.specs.declared.device.Answer.{Answer}
+use Rattle.mailbox.specs.declared.device_calls.LineAnswer.{LineAnswer}
+use Rattle.settings.specs.Vector.{vector-number}
+use Rattle.wire.specs.Wire.{splice}
 use Rattle.mailbox.specs.declared.device.Device.{Device}
 use Rattle.history.specs.Calls.{Call, command, event-report, media-report, line-test, event-status, damage-total, pool-command, step}
 use Rattle.history.specs.Paper.{Pair, write, history}
@@ -65,6 +75,32 @@ ran-silence v p cs d e w x with-pool without =
     let b = ran-history v p (without-pool cs) e x without in
     let s = silent-history (Device.make v p .next) blank-paper cs in
     (a .0 ∙ ap (λ (x : Pair). x .device) s ∙ sym (b .0), a .1 ∙ ap (λ (x : Pair). x .paper) s ∙ sym (b .1))
+
+-- So what the code hands back after the one run and after the other is the same: of a command number, length, vector, every byte of the reply buffer and the view of the device that follows,
+pub code-silence : (v p : ℕ) (cs : List Call) (d e : Device) (w x : Paper) → Ran v p cs d w → Ran v p (without-pool cs) e x
+    → (opcode : ℕ) (payload : List ℕ) (time : ℕ) (area before after after′ : List ℕ) (a b : Answer)
+    → AfterEnding d time (λ (f : Device). Answered (outcome (state-of d) opcode payload time area (length before)) f a before after)
+    → AfterEnding e time (λ (f : Device). Answered (outcome (state-of e) opcode payload time area (length before)) f b before after′)
+    → (a .code ≡ b .code) × (a .length ≡ b .length) × (vector-number (a .vector) ≡ vector-number (b .vector)) × (after ≡ after′) × (state-of (a .device) ≡ state-of (b .device))
+code-silence v p cs d e w x with-pool without opcode payload time area before after after′ a b one two =
+    let o = ap (λ (s : DeviceState). outcome s opcode payload time area (length before)) (ran-silence v p cs d e w x with-pool without .0) in (
+      one .done .code ∙ ap (λ (r : Outcome). r .code) o ∙ sym (two .done .code),
+      one .done .size ∙ ap (λ (r : Outcome). length (r .reply)) o ∙ sym (two .done .size),
+      one .done .vector .number ∙ ap (λ (r : Outcome). r .vector) o ∙ sym (two .done .vector .number),
+      one .done .bytes ∙ ap (λ (r : Outcome). splice 0 (r .reply) before) o ∙ sym (two .done .bytes),
+      one .done .next ∙ ap (λ (r : Outcome). r .next) o ∙ sym (two .done .next),
+    )
+
+-- and of a line test number and answer, by document 01's number and type.
+pub code-silence-line : (v p : ℕ) (cs : List Call) (d e : Device) (w x : Paper) → Ran v p cs d w → Ran v p (without-pool cs) e x
+    → (address : ℕ) (a b : LineAnswer) → LineDone (Device.line-test (state-of d) address) a → LineDone (Device.line-test (state-of e) address) b
+    → (a .code ≡ b .code) × (status-number (a .answer) ≡ status-number (b .answer)) × (status-type (a .answer) ≡ status-type (b .answer))
+code-silence-line v p cs d e w x with-pool without address a b one two =
+    let o = ap (λ (s : DeviceState). Device.line-test s address) (ran-silence v p cs d e w x with-pool without .0) in (
+      one .code ∙ ap (λ (r : Device.LineOutcome). r .code) o ∙ sym (two .code),
+      one .number ∙ ap (λ (r : Device.LineOutcome). r .number) o ∙ sym (two .number),
+      one .kind ∙ ap (λ (r : Device.LineOutcome). r .kind) o ∙ sym (two .kind),
+    )
 
 -- ---- the examples
 pub pool-cases-hold : map given-of pool-cases ≡ map stated-of pool-cases
