@@ -4,6 +4,8 @@
 // copy away, which is measured and not proved.
 // What a caller owes, and nothing here checks: the device was made by `kulduvost_make` and changed by these functions alone, nothing else uses it during a call, the lengths
 // that come with pointers are true, and no two of the areas handed over overlap.
+#![tactic(auto)]
+
 ghost use Rattle.std.specs.Prelude.{◌≡◌, true, false, ◌+◌, ◌≤◌, length};
 ghost use Rattle.labels.specs.Labels.{label_size};
 ghost use Rattle.poison.specs.State.{capacity, ValidRuns};

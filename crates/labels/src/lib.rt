@@ -1,5 +1,7 @@
 // The label area (document 02, W-206): Get LSA and Set LSA over the 4,096 bytes that the caller lends with each command. A leaf, as the poison list and the event logs are:
 // it knows no opcode and no device. What is assumed: the lengths that the command layer checks before.
+#![tactic(auto)]
+
 ghost use Rattle.std.specs.Prelude.{◌≡◌, cond, ◌+◌, ◌≤◌, ◌<◌, ◌^◌, eqb, leb, length};
 ghost use Rattle.wire.specs.Done.{Writes};
 ghost use Rattle.labels.specs.Labels.{label_size, get_labels, set_code, Sets};

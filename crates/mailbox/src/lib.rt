@@ -2,6 +2,8 @@
 // poison list and of the event logs: their contracts alone are cited, and no array of theirs is read here.
 // Public functions of a device assume one made here and changed by these calls (`ValidDevice`) and nothing else, and give such a device back. Those of `by_parts`
 // and `pool_command_in` assume as much of the parts of a device that they are handed.
+#![tactic(auto)]
+
 pub mod by_parts;
 pub mod device;
 pub mod device_calls;

@@ -3,6 +3,8 @@
 // The changes and answers that a device asks for are functions over the arrays of a list, lent from where it lies: none makes a second list (document 02, W-203). They assume
 // a list made here and changed by these calls (`ValidList`; of lent arrays `ValidSlots`) and lines of the device, and leave such a list. What its own crate alone calls is not
 // public: the search and the moves within the arrays.
+#![tactic(auto)]
+
 pub mod clear;
 pub mod inject;
 pub mod line_test;

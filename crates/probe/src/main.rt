@@ -1,6 +1,8 @@
 // The probe program (document 10): reads records from standard input, makes each record's call with a buffer of the size that it asks for, and prints the whole
 // answer. One record is in memory at a time; the input may have any length. That it is safe and ends is proved, and so is every record's call and line; what the
 // system's calls read and write is tested.
+#![tactic(auto)]
+
 mod label_records;
 mod pool_records;
 mod serve;

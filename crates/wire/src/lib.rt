@@ -1,6 +1,8 @@
 // Little-endian numbers in byte slices, the copy of a part of one slice into another, and the comparison of a part
 // with a slice: one function over the width each. Every function fixes every byte of a buffer that it is lent. Also the small functions on numbers
 // that every layer uses, the return numbers, and what a call that writes to a lent room gives (`done`).
+#![tactic(auto)]
+
 pub mod done;
 pub mod returns;
 
