@@ -27,7 +27,7 @@ use protocol::stream::Stream;
 use protocol::{calls, formats, output, stream};
 
 // The device made by NW, its return number, and the bytes of the output buffer that are not written yet.
-#[derive(Drop)]
+#[derive(Clone, Copy)]
 pub struct Begun {
     pub code: u16,
     pub used: usize,

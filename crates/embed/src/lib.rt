@@ -33,7 +33,7 @@ use wire::returns;
 
 // The answer to a command: the return number, the number of the vector to raise (document 02, W-204; 0 for none) and the length of the reply.
 #[repr(C)]
-#[derive(Drop)]
+#[derive(Clone, Copy)]
 pub struct Done {
     pub code: u16,
     pub vector: u8,
@@ -42,7 +42,7 @@ pub struct Done {
 
 // The answer to a command of the second mailbox (document 02, W-208): the return number and the length of the reply. It has no vector: none of its commands raises one.
 #[repr(C)]
-#[derive(Drop)]
+#[derive(Clone, Copy)]
 pub struct PoolDone {
     pub code: u16,
     pub length: usize,
@@ -50,7 +50,7 @@ pub struct PoolDone {
 
 // The answer to an event report: the return number, whether the record was stored, and the number of the vector to raise, 0 for none.
 #[repr(C)]
-#[derive(Drop)]
+#[derive(Clone, Copy)]
 pub struct Event {
     pub code: u16,
     pub stored: bool,
@@ -59,7 +59,7 @@ pub struct Event {
 
 // The answer to a media report: the return number, and the lines stored and dropped.
 #[repr(C)]
-#[derive(Drop)]
+#[derive(Clone, Copy)]
 pub struct Media {
     pub code: u16,
     pub stored: u32,
@@ -68,7 +68,7 @@ pub struct Media {
 
 // The answer to a line test: the return number, document 01's number of the answer (0 clean, 1 damaged, 2 unknown; 3 disabled, document 02, W-207) and the type of the damage, 0 where there is none.
 #[repr(C)]
-#[derive(Drop)]
+#[derive(Clone, Copy)]
 pub struct Line {
     pub code: u16,
     pub answer: u8,

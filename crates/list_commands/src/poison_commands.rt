@@ -16,7 +16,7 @@ use wire::done::Done;
 use wire::returns;
 
 // What a command that changes the list gives: its return number, and what it leaves of the list beside the arrays, which are changed where they lie.
-#[derive(Drop)]
+#[derive(Clone, Copy)]
 pub struct ListChanged {
     pub code: u16,
     pub count: usize,
@@ -25,7 +25,7 @@ pub struct ListChanged {
 }
 
 // What Inject Poison gives: its return number, the number of entries after it, and whether it added one.
-#[derive(Drop)]
+#[derive(Clone, Copy)]
 pub struct ListInjected {
     pub code: u16,
     pub count: usize,

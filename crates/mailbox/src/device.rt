@@ -21,7 +21,7 @@ use wire::returns;
 // The fields are public, and laid out as C does, for crate `embed` alone: it has a device behind a C program's pointer, and lends or copies out the parts that `by_parts` asks for
 // without the others. No other crate may name them (`tests/layers`): to it a device is what the calls below answer.
 #[repr(C)]
-#[derive(Drop)]
+#[derive(Clone, Copy)]
 pub struct Device {
     pub volatile: u16,
     pub persistent: u16,
@@ -34,7 +34,7 @@ pub struct Device {
 
 // The answer to a command: the return number, the length of the reply, the device that follows, and the vector to raise (document 02, W-204). The vector stands last:
 // before the device it costs a copy of some 7.6 KB with every command, as compiled.
-#[derive(Drop)]
+#[derive(Clone, Copy)]
 pub struct Answer {
     pub code: u16,
     pub length: usize,
@@ -43,7 +43,7 @@ pub struct Answer {
 }
 
 // The answer of make.
-#[derive(Drop)]
+#[derive(Clone, Copy)]
 pub struct Made {
     pub code: u16,
     pub device: Device,

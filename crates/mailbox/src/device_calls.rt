@@ -17,7 +17,7 @@ use settings::vector;
 use settings::vector::Vector;
 use wire::returns;
 
-#[derive(Drop)]
+#[derive(Clone, Copy)]
 pub struct EventAnswer {
     pub code: u16,
     pub stored: bool,
@@ -25,7 +25,7 @@ pub struct EventAnswer {
     pub vector: Vector,
 }
 
-#[derive(Drop)]
+#[derive(Clone, Copy)]
 pub struct MediaAnswer {
     pub code: u16,
     pub stored: u32,
@@ -33,7 +33,7 @@ pub struct MediaAnswer {
     pub device: Device,
 }
 
-#[derive(Drop)]
+#[derive(Clone, Copy)]
 pub struct LineAnswer {
     pub code: u16,
     pub answer: LineStatus,

@@ -4,7 +4,7 @@ ghost use Rattle.mailbox.specs.LineStatus.{status_of, status_number, status_type
 
 use poison::line_test::LineTest;
 
-#[derive(Drop)]
+#[derive(Clone, Copy)]
 pub enum LineStatus {
     Clean,
     Damaged(u8),

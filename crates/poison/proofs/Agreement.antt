@@ -3,7 +3,7 @@
 use mathlib.Core.Path.{◌≡◌, refl, sym, ap, ◌∙◌}
 use mathlib.Core.Bool.{Bool, true, false, not, ◌&&◌, ◌||◌, cond, true≢false, false≢true, or-false, or-true, and-true, and-false}
 use mathlib.Core.List.{List, [], ◌∷◌, map}
-use Prim.Native.Nat.{ℕ, zero, suc, ◌+◌, ◌-◌, ◌≤◌, ◌<◌}
+use Prim.Native.Nat.{ℕ, zero, suc, ◌+◌, ◌≤◌, ◌<◌}
 use native.Mathlib.Omega.{arith}
 use borrow.Author.Tests.{ltb-true}
 use lib.Dec.{ltb, eqb}
@@ -15,7 +15,7 @@ use Rattle.poison.specs.Report.{with_drop, dropped_runs, report_entries, after_r
 use Rattle.poison.specs.LineTest.{line_test, answer_number}
 use Rattle.poison.specs.Inject.{after_inject}
 use Rattle.poison.specs.Clear.{after_clear}
-use Rattle.poison.specs.Paper.{Paper, blank_paper, paper_report, paper_inject, paper_clear, report, clear, fit, unfit, blank, Agrees}
+use Rattle.poison.specs.Paper.{Paper, blank_paper, paper_report, paper_inject, paper_clear, fit, unfit, Agrees}
 use Rattle.poison.specs.declared.line_test.LineTest.TheVariants.{Clean, Damaged, Unknown}
 use Rattle.poison.proofs.Counts.{or_left, or_right, count_cong, count_or, count_chain, chain_low, Place, low, mid, high, place}
 use Rattle.poison.proofs.RunLaws.{in_runs_of, chain_runs_of, in_insert, chain_insert, length_insert, in_insert_all, length_insert_all, chain_insert_all, in_append, chain_take, in_cut, chain_cut, few_cut, after_within}

@@ -7,7 +7,7 @@ use native.Mathlib.Omega.{arith}
 use native.Mathlib.Nat.{zero-add}
 use borrow.Author.Tests.{lt-ltb, le-ltb, le-leb, lt-leb, ltb-true, ltb-false, leb-true, leb-false}
 use lib.Dec.{leb, ltb}
-use Rattle.poison.specs.Runs.{Run, run, end, in_run, in_runs, total, one_if, count, Chain}
+use Rattle.poison.specs.Runs.{Run, end, in_run, in_runs, total, one_if, count, Chain}
 
 -- ---- neither of two
 pub or_left : (a b : Bool) → (a || b) ≡ false → a ≡ false

@@ -126,7 +126,7 @@ dropped_by_clear xs k j e = go (leb slots (length xs)) (some_run (before_in k xs
 -- the run of a chain over line k is the one that is looked at
 found_over : (lo hi : ℕ) (xs : List Run) (k : ℕ) (r : Run) → Chain lo hi xs → Memᴰ r xs → in_run r k ≡ true
     → (lo ≤ k) × (before_in k xs ≡ before k r) × (after_in k xs ≡ after k r)
-found_over lo hi [] k r c m e = absurd (Memᴰ.not_nil m)
+found_over lo hi [] k r c m e = absurd (Memᴰ.not-nil m)
 found_over lo hi (x ∷ xs) k r c m e = go (Memᴰ.cases_cons m) (λ n. found_over (end x) hi xs k r c.2 n e)
   where
     start_low : Place r k → r.start ≤ k

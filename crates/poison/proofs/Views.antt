@@ -7,7 +7,7 @@ use native.Mathlib.Omega.{arith}
 use lib.ListN.{length, take, get_or}
 use lib.Seq.{length-take-le, get_or-take}
 use Rattle.poison.specs.declared.list.PoisonList.{PoisonList}
-use Rattle.poison.specs.Runs.{Run, run, slots}
+use Rattle.poison.specs.Runs.{Run, run}
 use Rattle.poison.specs.Shift.{zip}
 use Rattle.poison.specs.State.{Entry, shapes, entry, runs_in, entries_in, entries_of, list_of, ValidRuns, ValidList, ValidSlots}
 use Rattle.poison.proofs.Zips.{length_zip, zip_getD}

@@ -1,6 +1,6 @@
 -- The paper of demand 3 (document 01, "Promises and how they are tried"): a set of damaged lines, paper entries and a dropped set, fed the changes
 -- alone; what the list and the paper must have to do with each other; and every list of changes.
-use Rattle.std.specs.Prelude.{◌≡◌, Bool, true, false, not, ◌&&◌, ◌||◌, cond, List, [], ◌∷◌, ℕ, ◌+◌, ◌-◌, ◌<◌, leb, ltb, eqb, length, take, drop, get_or}
+use Rattle.std.specs.Prelude.{◌≡◌, Bool, true, false, not, ◌&&◌, ◌||◌, cond, List, [], ◌∷◌, ℕ, ◌+◌, ◌<◌, leb, ltb, eqb, length, take, drop, get_or}
 use Rattle.poison.specs.Runs.{Run, run, in_run, in_runs, count, insert, insert_all, cut, room, uncovered, keeps, lost}
 use Rattle.poison.specs.State.{PoisonState, empty, shapes, damage_total}
 use Rattle.poison.specs.Report.{reportable, after_report}

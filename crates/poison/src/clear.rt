@@ -6,7 +6,7 @@ ghost use Rattle.poison.specs.Clear.{Clears};
 use crate::{list, search, shift};
 
 // What a clearing leaves beside the arrays: the number of entries, the overflow flag and the overflow time.
-#[derive(Drop)]
+#[derive(Clone, Copy)]
 pub struct Cleared {
     pub count: usize,
     pub overflow: bool,

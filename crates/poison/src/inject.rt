@@ -7,7 +7,7 @@ use crate::{search, shift};
 
 // The number of entries after an injection, whether it was taken, and whether it added an entry; where it was not taken, 256 entries are held and none covers
 // the line, and where it was taken and added none, the line was covered already (document 02, W-204: only one that adds an entry is an event).
-#[derive(Drop)]
+#[derive(Clone, Copy)]
 pub struct Injected {
     pub count: usize,
     pub done: bool,

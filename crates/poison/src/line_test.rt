@@ -7,7 +7,7 @@ use crate::list::PoisonList;
 use crate::search;
 
 // What the host is told of a line; document 01's numbers are `answer_number` and `answer_type`.
-#[derive(Drop)]
+#[derive(Clone, Copy)]
 pub enum LineTest {
     Clean,
     Damaged(u8),

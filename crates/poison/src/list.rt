@@ -6,7 +6,7 @@ ghost use Rattle.poison.specs.State.{state_of, capacity, ValidList, Made, damage
 // The fields are public for whoever lends the arrays: crate `embed`, which has the list behind a pointer, and `mailbox`, which has one by value (`by_parts`, `pool`). No other crate
 // names one (tests/layers).
 #[repr(C)]
-#[derive(Drop)]
+#[derive(Clone, Copy)]
 pub struct PoisonList {
     pub starts: [u32; 256],
     pub lengths: [u32; 256],

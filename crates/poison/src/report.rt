@@ -7,7 +7,7 @@ ghost use Rattle.poison.specs.Stretch.{Stretches};
 use crate::{list, search, shift};
 
 // What a report leaves beside the arrays (the number of entries, the overflow flag and the overflow time), and the lines stored and dropped.
-#[derive(Drop)]
+#[derive(Clone, Copy)]
 pub struct Reported {
     pub count: usize,
     pub overflow: bool,
@@ -17,7 +17,7 @@ pub struct Reported {
 }
 
 // Lines that are all covered, or all uncovered: up to `stop`, which is past them.
-#[derive(Drop)]
+#[derive(Clone, Copy)]
 struct Stretch {
     stop: u32,
     covered: bool,

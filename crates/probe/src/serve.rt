@@ -33,7 +33,7 @@ use settings::vector::vector_number;
 
 // A record served: the device that follows, how many bytes of the label store are lent from then on, and the bytes of the output buffer that are not written yet, with
 // the record's line.
-#[derive(Drop)]
+#[derive(Clone, Copy)]
 pub struct ServedRecord {
     pub used: usize,
     pub device: Device,

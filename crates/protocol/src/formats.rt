@@ -12,7 +12,7 @@ use crate::stream::Stream;
 use crate::{host_formats, label_formats, records};
 
 // Whose records they are.
-#[derive(Drop)]
+#[derive(Clone, Copy)]
 pub enum Format {
     Bench,
     Probe,

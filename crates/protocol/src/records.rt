@@ -8,7 +8,7 @@ ghost use Rattle.protocol.specs.Relations.{FindsBytes};
 use crate::stream::Stream;
 
 // What comes next: `size` bytes from the stream's place on, which lie in the buffer, or none where they are cut.
-#[derive(Drop)]
+#[derive(Clone, Copy)]
 pub struct Found {
     pub size: usize,
     pub stream: Stream,

@@ -8,7 +8,7 @@ use libc::{STDIN_FILENO, STDOUT_FILENO};
 
 // The bytes at..end of the input buffer are not used yet; `at` lies `offset` bytes into the input; the first `used` bytes of the output buffer
 // are not written yet; `ended` says that a read brought no byte.
-#[derive(Drop)]
+#[derive(Clone, Copy)]
 pub struct Stream {
     pub at: usize,
     pub end: usize,
@@ -18,7 +18,7 @@ pub struct Stream {
 }
 
 // What was read into the input buffer: its new end, and whether the last read brought no byte.
-#[derive(Drop)]
+#[derive(Clone, Copy)]
 pub struct Filled {
     pub end: usize,
     pub ended: bool,

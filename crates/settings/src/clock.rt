@@ -8,7 +8,7 @@ use wire::returns;
 
 // Never set, or the value set and the caller's time at the setting.
 #[repr(C)]
-#[derive(Drop)]
+#[derive(Clone, Copy)]
 pub struct Clock {
     pub(crate) set: bool,
     pub(crate) value: u64,

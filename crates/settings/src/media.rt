@@ -4,7 +4,7 @@ ghost use Rattle.settings.specs.Media.{enabled, rows, seconds_in, duration, sani
 
 // Enabled; or disabled since a caller's time, for so many nanoseconds.
 #[repr(C)]
-#[derive(Drop)]
+#[derive(Clone, Copy)]
 pub struct MediaState {
     pub disabled: bool,
     pub(crate) since: u64,

@@ -1,7 +1,7 @@
 // What a call that writes to a lent room gives: a command of the mailbox that replies, and the calls of the host's library.
 
 // The return number, and how many bytes of the room were written: none where the number is not 0.
-#[derive(Drop)]
+#[derive(Clone, Copy)]
 pub struct Done {
     pub code: u16,
     pub length: usize,

@@ -1,0 +1,17 @@
+-- `poison::shift::put_entry` meets its contract: what is put into each array leaves the slots past the new last entry (Moves). Assumes nothing.
+use Rattle.poison.proofs.Moves.{past_kept}
+use Rattle.poison.proofs.shift.put_entry.Goals as goal
+
+pub returns : goal.returns
+returns c =
+    let a = c.put_number.ensures in
+    let b = c.put_number-2.ensures in
+    let d = c.put_kind.ensures in
+    record {
+      starts = a;
+      lengths = b;
+      kinds = d;
+      past_starts = rw a (past_kept _ _ _ _ c.requires.0);
+      past_lengths = rw b (past_kept _ _ _ _ c.requires.0);
+      past_kinds = rw d (past_kept _ _ _ _ c.requires.0);
+    }
