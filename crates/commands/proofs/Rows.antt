@@ -1,6 +1,6 @@
 -- The rows of the table of commands: what holds of the opcode of each row holds of every opcode that the rows know; what both mailboxes have (document 02, W-208) the device has, media disabled allows it, and the
 -- checks before a command's own are the same in both. Assumes nothing.
-use mathlib.Core.Path.{◌≡◌, refl, sym, ap, ◌∙◌, subst}
+use mathlib.Core.Path.{◌≡◌, refl, sym, subst}
 use mathlib.Core.Bool.{Bool, true, false, ◌||◌, false≢true}
 use mathlib.Core.List.{List, [], ◌∷◌}
 use Prim.Native.Nat.{ℕ}

@@ -17,7 +17,7 @@ use Rattle.labels.proofs.Laws.{read_back, apart_kept, get_inside, get_outside, r
 use Rattle.commands.specs.Numbers.{mailbox_size}
 use Rattle.mailbox.specs.State.{DeviceState}
 use Rattle.mailbox.specs.Outcome.{Outcome, reads, changes, refused}
-use Rattle.commands.specs.Commands.{commands, first_code}
+use Rattle.commands.specs.Commands.{first_code}
 use Rattle.mailbox.specs.Mailbox.{run_command, answer, area_after}
 use Rattle.commands.proofs.Laws.{admission_area, first_refused}
 use Rattle.mailbox.proofs.Accepted.{admitted_runs, accepted_runs}

@@ -2,7 +2,6 @@
 use mathlib.Core.Path.{◌≡◌, ap, ◌∙◌, subst}
 use mathlib.Core.List.{List}
 use Prim.Native.Nat.{ℕ, ◌+◌, ◌*◌}
-use lib.ListN.{length}
 use Rattle.poison.specs.State.{ValidList, state_of}
 use Rattle.poison.specs.declared.list.PoisonList.{PoisonList}
 use Rattle.wire.specs.declared.done.Done.{Done}

@@ -10,7 +10,6 @@ use Rattle.events.specs.Log.{blank}
 use Rattle.events.specs.declared.log.Log.{Log}
 use Rattle.wire.specs.declared.done.Done.{Done}
 use Rattle.settings.specs.declared.clock.Clock.{Clock}
-use Rattle.settings.specs.declared.media.MediaState.{MediaState}
 use Rattle.settings.specs.Reply.{Reply, no_reply}
 use Rattle.settings.specs.Relations.{Replied}
 use Rattle.settings.proofs.Laws.{no_bytes}
@@ -22,7 +21,7 @@ use Rattle.mailbox.specs.State.{DeviceState, state_of}
 use Rattle.mailbox.specs.declared.device.Device.{Device}
 use Rattle.mailbox.specs.Telling.{telling}
 use Rattle.mailbox.specs.Pool.{pool_answer}
-use Rattle.mailbox.specs.ByParts.{log_named, device_of, LogTold, Told, PoolIn}
+use Rattle.mailbox.specs.ByParts.{log_named, LogTold, Told, PoolIn}
 
 -- ---- of the definition: refused before a command's own checks; past them
 module _ (d : DeviceState) (op : ℕ) (p : List ℕ) (time room : ℕ) where

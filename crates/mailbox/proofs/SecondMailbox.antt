@@ -1,7 +1,7 @@
 -- The second mailbox in words (document 02, W-208): what it refuses and with which number, that a refusal gives nothing, and that the five of its commands that do not tell of the effects log are
 -- answered as the first mailbox answers them on the same device. Assumes nothing.
 use mathlib.Core.Path.{◌≡◌, refl, sym, ap, ◌∙◌}
-use mathlib.Core.Bool.{Bool, true, false}
+use mathlib.Core.Bool.{true, false}
 use mathlib.Core.List.{List, []}
 use Prim.Native.Nat.{ℕ, ◌≤◌}
 use native.Mathlib.Omega.{arith}
@@ -9,7 +9,7 @@ use native.Mathlib.Decide.{ℕ_discrete}
 use lib.ListN.{length}
 use Rattle.labels.specs.Labels.{label_size}
 use Rattle.wire.specs.Wire.{splice}
-use Rattle.wire.specs.Returns.{success, unsupported, unsupported_mailbox, need}
+use Rattle.wire.specs.Returns.{success, unsupported, unsupported_mailbox}
 use Rattle.wire.specs.declared.done.Done.{Done}
 use Rattle.settings.specs.Media.{due}
 use Rattle.settings.specs.Reply.{Reply, no_reply}
@@ -17,10 +17,9 @@ use Rattle.settings.specs.Relations.{Replied}
 use Rattle.commands.specs.Numbers.{mailbox_size}
 use Rattle.commands.specs.declared.mailboxes.Mailbox.TheVariants.{First, Pool}
 use Rattle.commands.specs.Commands.{commands, rows_of, known, checked, admission, first_code}
-use Rattle.commands.proofs.Laws.{known_one, pool_known, pool_allowed, pool_checked, checked_unknown, checked_first, admission_sized, first_allowed}
+use Rattle.commands.proofs.Laws.{known_one, pool_allowed, pool_checked, checked_unknown, checked_first, admission_sized, first_allowed}
 use Rattle.mailbox.specs.State.{DeviceState}
-use Rattle.mailbox.specs.Ending.{ended}
-use Rattle.mailbox.specs.Outcome.{Outcome, reads}
+use Rattle.mailbox.specs.Outcome.{reads}
 use Rattle.mailbox.specs.Telling.{telling}
 use Rattle.mailbox.specs.Mailbox.{run_command, answer, outcome}
 use Rattle.mailbox.specs.Pool.{pool_answer}

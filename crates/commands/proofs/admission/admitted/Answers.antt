@@ -4,8 +4,6 @@ use Rattle.std.proofs.lemmas.Bool.Decides.{nat_tests}
 use Rattle.commands.specs.Commands.{commands, rows_of}
 use Rattle.commands.proofs.AdmissionLaws.{checked_room, checked_long, checked_unknown, checked_both, checked_first}
 use mathlib.Core.Path.{refl, ◌∙◌}
-use Prim.Native.Nat.{◌-◌}
-use borrow.Author.Tests.{ne_eqb}
 use borrow.Author.Rules.{rules}
 use Rattle.commands.proofs.admission.admitted.Goals as goal
 

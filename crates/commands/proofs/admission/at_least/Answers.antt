@@ -1,6 +1,5 @@
 -- `commands::admission::at_least` meets its contract. Assumes nothing.
 use Rattle.wire.proofs.Laws.{need_holds, need_fails}
-use Prim.Native.Nat.{◌-◌}
 use borrow.Author.Tests.{le-leb, lt-leb}
 use Rattle.commands.proofs.admission.at_least.Goals as goal
 

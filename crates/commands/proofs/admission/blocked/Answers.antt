@@ -1,6 +1,4 @@
 -- `commands::admission::blocked` meets its contract. Assumes nothing.
-use Prim.Native.Nat.{◌-◌}
-use borrow.Author.Rules.{rules}
 use Rattle.commands.proofs.admission.blocked.Goals as goal
 
 pub returns-then-disabled : goal.returns-then-disabled

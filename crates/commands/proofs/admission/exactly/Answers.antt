@@ -1,6 +1,5 @@
 -- `commands::admission::exactly` meets its contract. Assumes nothing.
 use Rattle.wire.proofs.Laws.{need_holds, need_fails}
-use Prim.Native.Nat.{◌-◌}
 use borrow.Author.Tests.{eq-eqb, ne_eqb}
 use Rattle.commands.proofs.admission.exactly.Goals as goal
 

@@ -1,7 +1,6 @@
 -- `commands::admission::first_refusal` meets its contract. Assumes nothing.
 use Rattle.wire.proofs.Laws.{need_holds, need_fails}
 use borrow.Author.Tests.{eq-eqb, ne_eqb}
-use Prim.Native.Nat.{◌-◌}
 use Rattle.commands.proofs.admission.first_refusal.Goals as goal
 
 pub returns-then-first-ne-SUCCESS : goal.returns-then-first-ne-SUCCESS

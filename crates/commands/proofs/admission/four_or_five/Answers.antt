@@ -1,6 +1,5 @@
 -- `commands::admission::four_or_five` meets its contract. Assumes nothing.
 use mathlib.Core.Path.{sym}
-use Prim.Native.Nat.{◌-◌}
 use borrow.Author.Tests.{eq-eqb, ne_eqb}
 use Rattle.commands.proofs.admission.four_or_five.Goals as goal
 

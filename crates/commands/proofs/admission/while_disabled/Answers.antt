@@ -1,7 +1,6 @@
 -- `commands::admission::while_disabled` meets its contract. Assumes nothing.
 use native.Mathlib.Omega.{arith}
 use Rattle.std.proofs.lemmas.Bool.Decides.{nat_tests}
-use borrow.Author.Tests.{ne_eqb}
 use borrow.Author.Rules.{rules}
 use Rattle.commands.specs.Commands.{while_disabled}
 use Rattle.commands.proofs.AdmissionLaws.{disabled_sanitize, disabled_inject, disabled_clear, disabled_get, disabled_set}

@@ -3,7 +3,6 @@ use Rattle.commands.specs.EffectsLog.{get_supported_logs}
 use Rattle.settings.proofs.Laws.{bytes_written}
 use Rattle.commands.proofs.EffectsLaws.{supported_written, supported_length}
 use mathlib.Core.Path.{refl, ◌∙◌}
-use Prim.Native.Nat.{◌-◌}
 use borrow.Author.Rules.{rules}
 use Rattle.commands.proofs.effects_log.get_supported_logs.Goals as goal
 

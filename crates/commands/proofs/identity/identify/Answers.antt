@@ -3,7 +3,6 @@ use Rattle.commands.specs.Identity.{identify}
 use Rattle.settings.proofs.Laws.{bytes_written}
 use Rattle.commands.proofs.IdentityLaws.{identity_written, identity_length}
 use mathlib.Core.Path.{refl, ◌∙◌}
-use Prim.Native.Nat.{◌-◌}
 use borrow.Author.Rules.{rules}
 use Rattle.commands.proofs.identity.identify.Goals as goal
 

@@ -1,7 +1,6 @@
 -- `list_commands::poison_commands::check_aligned` meets its contract. Assumes nothing.
 use Rattle.wire.proofs.Laws.{need_holds, need_fails}
 use borrow.Author.Tests.{eq-eqb, ne_eqb}
-use Prim.Native.Nat.{◌-◌}
 use Rattle.list_commands.proofs.poison_commands.check_aligned.Goals as goal
 
 pub returns-then-address-ne0 : goal.returns-then-address-ne0

@@ -1,6 +1,5 @@
 -- `list_commands::poison_commands::check_end` meets its contract. Assumes nothing.
 use Rattle.list_commands.proofs.Addresses.{end_past, end_inside}
-use Prim.Native.Nat.{◌-◌}
 use borrow.Author.Rules.{rules}
 use Rattle.list_commands.proofs.poison_commands.check_end.Goals as goal
 

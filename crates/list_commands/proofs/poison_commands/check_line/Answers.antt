@@ -1,8 +1,6 @@
 -- `list_commands::poison_commands::check_line` meets its contract. Assumes nothing.
 use Rattle.list_commands.proofs.Addresses.{line_range}
 use mathlib.Core.Path.{◌∙◌}
-use Prim.Native.Nat.{◌-◌}
-use borrow.Author.Rules.{rules}
 use Rattle.list_commands.proofs.poison_commands.check_line.Goals as goal
 
 pub returns : goal.returns

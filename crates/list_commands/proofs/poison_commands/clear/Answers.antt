@@ -1,8 +1,7 @@
 -- `list_commands::poison_commands::clear` meets its contract: refused by the checks of the line, or what the list's clearing makes of it. Assumes nothing.
 use mathlib.Core.Path.{◌≡◌, sym, ◌∙◌}
-use Prim.Native.Nat.{◌<◌, ◌-◌, ◌/◌}
+use Prim.Native.Nat.{◌<◌, ◌/◌}
 use native.Mathlib.Omega.{arith}
-use borrow.Author.Rules.{rules}
 use Rattle.poison.specs.State.{capacity, list_of, ValidList}
 use Rattle.poison.specs.declared.list.PoisonList.{PoisonList}
 use Rattle.poison.proofs.Laws.{slots_more, slots_valid}

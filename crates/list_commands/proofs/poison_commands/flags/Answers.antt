@@ -3,9 +3,8 @@ use lib.Bits.{or_shifted_r}
 use Prim.Native.Nat.{◌%◌}
 use Rattle.list_commands.proofs.Headers.{flags_of}
 use mathlib.Core.Path.{◌≡◌}
-use Prim.Native.Nat.{◌-◌, ◌*◌}
+use Prim.Native.Nat.{◌*◌}
 use native.Mathlib.Omega.{arith}
-use borrow.Author.Rules.{rules}
 use Rattle.list_commands.proofs.poison_commands.flags.Goals as goal
 
 pub returns : goal.returns

@@ -1,6 +1,6 @@
 -- `list_commands::poison_commands::get` meets its contract: refused by the checks of the range, or the records written and then the header before them. Assumes nothing.
 use mathlib.Core.Path.{◌≡◌, sym, ◌∙◌}
-use Prim.Native.Nat.{◌≤◌, ◌+◌, ◌-◌, ◌/◌}
+use Prim.Native.Nat.{◌≤◌, ◌+◌, ◌/◌}
 use native.Mathlib.Omega.{arith}
 use borrow.Author.Rules.{rules}
 use Rattle.poison.specs.State.{capacity, list_of}

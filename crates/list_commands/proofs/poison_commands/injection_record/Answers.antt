@@ -1,5 +1,4 @@
 -- `list_commands::poison_commands::injection_record` meets its contract. Assumes nothing.
-use borrow.Author.Rules.{rules}
 use Rattle.list_commands.specs.PoisonCommands.{injection_record}
 use Rattle.list_commands.proofs.poison_commands.injection_record.Goals as goal
 

@@ -1,7 +1,6 @@
 -- `list_commands::poison_commands::more` meets its contract. Assumes nothing.
 use borrow.Author.Tests.{lt-ltb, le-ltb}
 use mathlib.Core.Path.{sym}
-use Prim.Native.Nat.{◌-◌}
 use borrow.Author.Rules.{rules}
 use Rattle.list_commands.proofs.poison_commands.more.Goals as goal
 

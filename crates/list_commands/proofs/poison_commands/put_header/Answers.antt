@@ -1,7 +1,6 @@
 -- `list_commands::poison_commands::put_header` meets its contract. Assumes nothing.
 use Rattle.list_commands.proofs.Headers.{header_written}
 use mathlib.Core.Path.{◌∙◌}
-use Prim.Native.Nat.{◌-◌}
 use borrow.Author.Rules.{rules}
 use Rattle.list_commands.proofs.poison_commands.put_header.Goals as goal
 

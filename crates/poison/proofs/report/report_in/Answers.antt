@@ -21,8 +21,8 @@ loop-at-init c =
 pub stretch_from-s-requires : goal.stretch_from-s-requires
 stretch_from-s-requires c =
     let list_at : PoisonList = list_of c.loop-at.starts c.loop-at.lengths c.loop-at.kinds c.loop-at.n c.args.overflow c.args.since in
-    let runs-at : ValidRuns capacity c.loop-at.n c.loop-at.starts c.loop-at.lengths = valid_runs list_at c.loop-at.invariant.0.sized c.loop-at.invariant.0.valid in
-    (runs-at, search rules)
+    let runs_at : ValidRuns capacity c.loop-at.n c.loop-at.starts c.loop-at.lengths = valid_runs list_at c.loop-at.invariant.0.sized c.loop-at.invariant.0.valid in
+    (runs_at, search rules)
 
 pub overflow_sub-run : goal.overflow_sub-run
 overflow_sub-run c =
@@ -31,8 +31,8 @@ overflow_sub-run c =
 pub place-place-requires : goal.place-place-requires
 place-place-requires c =
     let list_at : PoisonList = list_of c.loop-at.starts c.loop-at.lengths c.loop-at.kinds c.loop-at.n c.args.overflow c.args.since in
-    let runs-at : ValidRuns capacity c.loop-at.n c.loop-at.starts c.loop-at.lengths = valid_runs list_at c.loop-at.invariant.0.sized c.loop-at.invariant.0.valid in
-    runs-at
+    let runs_at : ValidRuns capacity c.loop-at.n c.loop-at.starts c.loop-at.lengths = valid_runs list_at c.loop-at.invariant.0.sized c.loop-at.invariant.0.valid in
+    runs_at
 
 pub put_entry-requires : goal.put_entry-requires
 put_entry-requires c =
