@@ -27,6 +27,7 @@ use events::status::Status;
 use mailbox::device::Device;
 use mailbox::{by_parts, pool};
 use poison::line_test::LineTest;
+use poison::list::PoisonList;
 use poison::{line_test, list};
 use settings::media::MediaState;
 use wire::returns;
@@ -94,11 +95,20 @@ pub extern "C" fn kulduvost_make(device: &mut Device, volatile: u16, persistent:
     a.code
 }
 
+// What the type of a list says of its arrays, for the proofs of the functions that lend them out of a device. The prover learns it from a read of each array; as compiled nothing is left of them.
+fn sized(list: &PoisonList)
+    ensures { (length list.now.starts ≡ 256) × (length list.now.lengths ≡ 256) × (length list.now.kinds ≡ 256) }
+{
+    let _start = list.starts[0];
+    let _length = list.lengths[0];
+    let _kind = list.kinds[0];
+}
+
 // The three functions below end the work of a Sanitize that is due (document 02, W-207), before the call that comes at that time. Each log is emptied where it lies, one after the other.
 // One log, by its number.
 fn end_log(device: &mut Device, number: u8)
     requires { ValidDevice device.old }
-    ensures { LogEmptied device.old (log_at number) device.new × ValidDevice device.new }
+    ensures { LogEmptied device.old (log_at number) device.new × ValidDevice device.new × (length device.old.logs ≡ 5) }
 {
     let k = by_parts::log_at(number);
     let a = empty::emptied(device.logs[k]);
@@ -144,6 +154,7 @@ fn run_on_list(
     requires { ValidDevice device.old × (of_list opcode ≡ true) }
     ensures { WithoutArea device.old opcode payload.now time reply.old result device.new reply.new }
 {
+    sized(&device.poison);
     let a = by_parts::list_command_in_place(
         &mut device.poison.starts,
         &mut device.poison.lengths,
@@ -244,7 +255,8 @@ fn run_on_settings(
         reply,
     );
     device.clock = a.clock;
-    device.policy = a.policy;
+    let policy = a.policy;
+    device.policy = policy;
     device.media = a.media;
     Done {
         code: a.code,
@@ -403,6 +415,7 @@ pub extern "C" fn kulduvost_media_report(
     ensures { AfterEnding device.old time (λ (e : Device). MediaDone (media_report (state_of device.old) time address lines kind) e (media_told result device.new)) }
 {
     end_due(device, time);
+    sized(&device.poison);
     let a = by_parts::media_report_in_place(
         &mut device.poison.starts,
         &mut device.poison.lengths,
@@ -487,6 +500,7 @@ pub extern "C" fn kulduvost_line_test(device: &Device, address: u64) -> Line
     requires { ValidDevice device.now }
     ensures { LineTold (line_test (state_of device.now) address) result }
 {
+    sized(&device.poison);
     line_in(
         &device.poison.starts,
         &device.poison.lengths,
@@ -517,5 +531,6 @@ pub extern "C" fn kulduvost_damage_total(device: &Device) -> u64
     requires { ValidDevice device.now }
     ensures { result ≡ damage_total (state_of device.now) }
 {
+    sized(&device.poison);
     list::total_in(&device.poison.lengths, device.poison.count)
 }

@@ -1,0 +1,8 @@
+-- `run_on_log` meets its contract, by what the functions that it calls ensure (`Parts`). Assumes nothing.
+use Rattle.std.proofs.Common.{rules}
+use Rattle.embed.proofs.Parts.{log_command_gives}
+use Rattle.embed.proofs.run_on_log.Goals as goal
+
+pub returns : goal.returns
+returns c =
+    log_command_gives c.args.device.now c.args.opcode c.args.payload.now c.args.time c.args.reply.now c.requires c.log_named-k.result c.log_named-k.ensures (search rules) c.log_command-a.result c.log_command-a.new.reply c.log_command-a.ensures
