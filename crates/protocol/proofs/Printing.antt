@@ -3,7 +3,7 @@ use mathlib.Core.Path.{◌≡◌, refl, sym, ap, ap₂, ◌∙◌}
 use mathlib.Core.Bool.{Bool, true, false, cond}
 use mathlib.Core.List.{List, [], ◌∷◌, ◌++◌, append-nil, append_assoc}
 use Prim.Native.Nat.{ℕ, zero, suc, ◌+◌, ◌-◌, ◌*◌, ◌/◌, ◌%◌, ◌^◌, ◌≤◌, ◌<◌}
-use native.Mathlib.Nat.{pow-le-pow_right, zero-lt-suc, add-zero}
+use native.Mathlib.Nat.{add-zero}
 use native.Mathlib.Numerals.{add-one}
 use native.Mathlib.Omega.{arith}
 use lib.Dec.{ltb}
@@ -44,9 +44,6 @@ puts_then {at} {m} {e} {a} {b} {before} {between} {after} p q room =
       bytes = q.bytes ∙ ap (splice m b) p.bytes ∙ joined at m a b before p.end room;
       end = rw length-append (omega (arith, p.end, q.end));
     }
-
-pow_pos_ten : (j : ℕ) → 1 ≤ 10 ^ j
-pow_pos_ten j = pow-le-pow_right {n = 10} (zero-lt-suc 9) {i = 0} {j = j} (omega arith)
 
 -- the same text by another name
 pub puts_as : {at r : ℕ} {a b before after : List ℕ} → Puts at a before after r → a ≡ b → Puts at b before after r

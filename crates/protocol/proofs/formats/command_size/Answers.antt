@@ -21,13 +21,13 @@ get-payload-requires c =
 pub returns-then-room-gt4096 : goal.returns-then-room-gt4096
 returns-then-room-gt4096 c =
     let h = c.args.head.now in
-    let room = lt-leb (field h 12 2) 4096 (omega (arith, c.get-room.ensures.value, c.if-room-gt4096.true)) in
+    let room = lt-leb (field h 12 2) 4096 (omega (arith, c.get-room.ensures.value)) in
     (size_over h (command_within h c.requires.2 ∙ ap (λ (t : Bool). t && within (field h 15 2)) room), omega arith)
 
 pub returns-then-payload-gt4096 : goal.returns-then-payload-gt4096
 returns-then-payload-gt4096 c =
     let h = c.args.head.now in
-    let room = le-leb (field h 12 2) 4096 (omega (arith, c.get-room.ensures.value, c.if-room-gt4096.false)) in
+    let room = le-leb (field h 12 2) 4096 (omega (arith, c.get-room.ensures.value)) in
     let payload = lt-leb (field h 15 2) 4096 (omega (arith, c.get-payload.ensures.value, c.if-payload-gt4096.true)) in
     (size_over h (command_within h c.requires.2 ∙ ap₂ ◌&&◌ room payload), omega arith)
 
@@ -35,7 +35,7 @@ pub returns : goal.returns
 returns c =
     let h = c.args.head.now in
     let payload = c.get-payload.ensures.value in
-    let room = le-leb (field h 12 2) 4096 (omega (arith, c.get-room.ensures.value, c.if-room-gt4096.false)) in
+    let room = le-leb (field h 12 2) 4096 (omega (arith, c.get-room.ensures.value)) in
     let few = le-leb (field h 15 2) 4096 (omega (arith, payload, c.if-payload-gt4096.false)) in
     let sized = size_within h (command_within h c.requires.2 ∙ ap₂ ◌&&◌ room few) (command_rest h c.requires.2) in
     (ap (λ (k : ℕ). length h + k) payload ∙ sized, omega (arith, c.if-payload-gt4096.false, c.requires.0.part.most))
