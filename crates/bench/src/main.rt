@@ -7,12 +7,17 @@ mod lines;
 mod serve;
 
 use protocol::stream;
+use protocol::stream::System;
 
-fn main() {
-    let mut input = io::large_buffer();
-    let mut out = io::large_buffer();
+fn main(rt: HostRuntime) {
+    let system = System {
+        input: rt.stdin(),
+        output: rt.stdout(),
+    };
+    let mut input = [0u8; 65536];
+    let mut out = [0u8; 65536];
     let mut area = [0u8; 4096];
     let mut reply = [0u8; 2048];
-    let used = serve::run(&mut input, &mut out, &mut area, &mut reply);
-    stream::flush(&out, used);
+    let used = serve::run(system, &mut input, &mut out, &mut area, &mut reply);
+    stream::flush(system.output, &out, used);
 }

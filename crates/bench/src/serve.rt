@@ -23,7 +23,7 @@ use mailbox::line_status;
 use protocol::calls::Served;
 use protocol::formats::Format;
 use protocol::records::mark;
-use protocol::stream::Stream;
+use protocol::stream::{Stream, System};
 use protocol::{calls, formats, output, stream};
 
 // The device made by NW, its return number, and the bytes of the output buffer that are not written yet.
@@ -110,6 +110,7 @@ fn line(device: Device, bytes: &[u8], out: &mut [u8], used: usize) -> usize
 fn serve(
     made: Device,
     start: Stream,
+    system: System,
     input: &mut [u8],
     out: &mut [u8],
     area: &mut [u8],
@@ -121,9 +122,9 @@ fn serve(
     let mut device = made;
     let mut s = start;
     while s.offset < 9223372036854775808 {
-        let found = formats::next(Format::Bench, s, input, out);
+        let found = formats::next(Format::Bench, s, system, input, out);
         let here = found.stream;
-        let used = stream::make_room(out, here.used, 4200);
+        let used = stream::make_room(system.output, out, here.used, 4200);
         let at = here.at;
         if found.size == 0 {
             return output::stop(out, used, here.end - at, here.offset);
@@ -176,12 +177,18 @@ fn begin(bytes: &[u8], out: &mut [u8]) -> Begun
 }
 
 // Makes the device by the first record and serves the others: how many bytes of the output buffer are not written yet. The label area starts as zeros.
-pub(crate) fn run(input: &mut [u8], out: &mut [u8], area: &mut [u8], reply: &mut [u8]) -> usize
+pub(crate) fn run(
+    system: System,
+    input: &mut [u8],
+    out: &mut [u8],
+    area: &mut [u8],
+    reply: &mut [u8],
+) -> usize
     requires { (length input.old ≡ 65536) × (length out.old ≡ 65536) × (length reply.old ≡ 2048) × (area.old ≡ zero_area) }
     ensures { (result ≤ 65536) × Runs result out.new }
 {
     let start = Stream::new();
-    let found = formats::next(Format::Bench, start, input, out);
+    let found = formats::next(Format::Bench, start, system, input, out);
     let here = found.stream;
     let at = here.at;
     if found.size == 0 {
@@ -195,5 +202,5 @@ pub(crate) fn run(input: &mut [u8], out: &mut [u8], area: &mut [u8], reply: &mut
     }
     let device = begun.device;
     rest.used = begun.used;
-    serve(device, rest, input, out, area, reply)
+    serve(device, rest, system, input, out, area, reply)
 }

@@ -8,12 +8,17 @@ mod pool_records;
 mod serve;
 
 use protocol::stream;
+use protocol::stream::System;
 
-fn main() {
-    let mut input = io::large_buffer();
-    let mut out = io::large_buffer();
+fn main(rt: HostRuntime) {
+    let system = System {
+        input: rt.stdin(),
+        output: rt.stdout(),
+    };
+    let mut input = [0u8; 65536];
+    let mut out = [0u8; 65536];
     let mut store = [0u8; 8192];
-    let mut reply = io::large_buffer();
-    let used = serve::run(&mut input, &mut out, &mut store, &mut reply);
-    stream::flush(&out, used);
+    let mut reply = [0u8; 65536];
+    let used = serve::run(system, &mut input, &mut out, &mut store, &mut reply);
+    stream::flush(system.output, &out, used);
 }

@@ -26,7 +26,7 @@ use mailbox::line_status;
 use protocol::calls::Served;
 use protocol::formats::Format;
 use protocol::records::mark;
-use protocol::stream::Stream;
+use protocol::stream::{Stream, System};
 use protocol::{calls, formats, output, stream};
 use reply_records::{replies, rewrites};
 use settings::vector::vector_number;
@@ -302,7 +302,13 @@ fn serve(
 
 // Serves the records: how many bytes of the output buffer are not written yet. The first record is a make, so that the device before it serves none. The label store
 // starts as zeros. A proved loop has to end: it does at an offset that no input reaches.
-pub(crate) fn run(input: &mut [u8], out: &mut [u8], store: &mut [u8], reply: &mut [u8]) -> usize
+pub(crate) fn run(
+    system: System,
+    input: &mut [u8],
+    out: &mut [u8],
+    store: &mut [u8],
+    reply: &mut [u8],
+) -> usize
     requires { (length input.old ≡ 65536) × (length out.old ≡ 65536) × (length reply.old ≡ 65536) × (store.old ≡ zeros) }
     ensures { (result ≤ 65536) × Ends probe (machine_of (kept_first (new_device 1 0)) unread input.old out.old) result out.new }
 {
@@ -311,9 +317,9 @@ pub(crate) fn run(input: &mut [u8], out: &mut [u8], store: &mut [u8], reply: &mu
     let mut lent: usize = 4096;
     let mut s = Stream::new();
     while s.offset < 9223372036854775808 {
-        let found = formats::next(Format::Probe, s, input, out);
+        let found = formats::next(Format::Probe, s, system, input, out);
         let here = found.stream;
-        let used = stream::make_room(out, here.used, LINE_ROOM);
+        let used = stream::make_room(system.output, out, here.used, LINE_ROOM);
         let at = here.at;
         if found.size == 0 {
             return output::stop(out, used, here.end - at, here.offset);

@@ -3,15 +3,15 @@ use mathlib.Core.Path.{◌≡◌, refl, sym, ap, ap₂, ◌∙◌}
 use mathlib.Core.Bool.{Bool, true, false, cond}
 use mathlib.Core.List.{List, [], ◌∷◌, ◌++◌, append-nil, append_assoc}
 use Prim.Native.Nat.{ℕ, zero, suc, ◌+◌, ◌-◌, ◌*◌, ◌/◌, ◌%◌, ◌^◌, ◌≤◌, ◌<◌}
-use native.Mathlib.Nat.{pow-suc, pow-le-pow_right, zero-lt-suc, add-zero}
+use native.Mathlib.Nat.{add-zero}
 use native.Mathlib.Numerals.{add-one}
 use native.Mathlib.Omega.{arith}
-use native.Mathlib.Decide.{dec_le}
 use lib.Dec.{ltb}
 use lib.ListN.{length, take, get_or, set, length-append, length-set, length-take}
-use lib.Seq.{sets, take-take, take-suc}
+use lib.Seq.{sets, take_all, take-suc}
 use borrow.Author.Tests.{lt-ltb, le-ltb, eq-eqb, ne_eqb}
-use Rattle.io.specs.Digits.{last_digits, IsDigitCount}
+use Rattle.std.specs.Fmt.{decimal as printed_decimal}
+use Rattle.std.proofs.lemmas.Fmt.{AppendsLastDigit, decimal_from_appends, length-decimal-le}
 use Rattle.wire.specs.Wire.{part, splice}
 use Rattle.wire.proofs.Laws.{stores, joined, part_step, part_none}
 use Rattle.protocol.specs.Text.{numeral, decimal, column, bytes_column, columns, hex, hex_digit, bad_line, last_line}
@@ -45,48 +45,17 @@ puts_then {at} {m} {e} {a} {b} {before} {between} {after} p q room =
       end = rw length-append (omega (arith, p.end, q.end));
     }
 
-pow_pos_ten : (j : ℕ) → 1 ≤ 10 ^ j
-pow_pos_ten j = pow-le-pow_right {n = 10} (zero-lt-suc 9) {i = 0} {j = j} (omega arith)
-
 -- the same text by another name
 pub puts_as : {at r : ℕ} {a b before after : List ℕ} → Puts at a before after r → a ≡ b → Puts at b before after r
 puts_as {at} {r} {a} {b} {before} {after} p e = record { bytes = p.bytes ∙ ap (λ (l : List ℕ). splice at l before) e; end = p.end ∙ ap (λ (l : List ℕ). at + length l) e }
 
--- a number below 2 ^ 64 has at most 20 decimal digits
-pub few_digits : (n k : ℕ) → n < 2 ^ 64 → (1 < k → 10 ^ (k - 1) ≤ n) → k ≤ 20
-few_digits n k small h = go (dec_le k 20)
-  where
-    go : Dec (k ≤ 20) → k ≤ 20
-    go (yes p) = p
-    go (no p) =
-        let more : 20 < k = omega arith in
-        let big : 10 ^ (k - 1) ≤ n = h (omega arith) in
-        omega (arith, pow-le-pow_right {n = 10} (zero-lt-suc 9) {i = 20} {j = k - 1} (omega arith))
-
--- the digits that `io::decimal` makes are the number's
-pub numeral_digits : (k r n : ℕ) → r ≤ k → 1 ≤ r → n < 10 ^ r → (1 < r → 10 ^ (r - 1) ≤ n) → numeral k n ≡ last_digits 10 r n
+-- the digits that `itoa` makes, which are those that std prints, are the number's
+numeral_appends : AppendsLastDigit numeral
 unfolding numeral
-numeral_digits zero r n room some small least = absurd (omega arith)
-numeral_digits (suc k) zero n room some small least = absurd (omega arith)
-numeral_digits (suc k) (suc zero) n room some small least =
-    let one : n % 10 ≡ n = omega arith in
-    rw (lt-ltb n 10 small, one, lt-ltb n 10 small)
-numeral_digits (suc k) (suc (suc j)) n room some small least =
-    let upper : 10 ^ suc (suc j) ≡ 10 ^ suc j * 10 = pow-suc 10 (suc j) in
-    let lower : 10 ^ suc j ≡ 10 ^ j * 10 = pow-suc 10 j in
-    let two : suc (suc j) - 1 ≡ suc j = omega arith in
-    let one : suc j - 1 ≡ j = omega arith in
-    let large : 10 ^ suc j ≤ n = rw two at (least (omega arith)) in
-    let rest : n / 10 < 10 ^ suc j = omega arith in
-    let enough : 10 ^ (suc j - 1) ≤ n / 10 = rw one (omega arith) in
-    let digit : n % 10 < 10 = omega arith in
-    let some_power : 1 ≤ 10 ^ j = omega (arith, pow_pos_ten j) in
-    let long : 10 ≤ n = omega arith in
-    rw (le-ltb n 10 long, lt-ltb (n % 10) 10 digit) (ap (λ (l : List ℕ). l ++ ((48 + n % 10) ∷ [])) (numeral_digits k (suc j) (n / 10) (omega arith) (omega arith) rest (λ _. enough)))
+numeral_appends = record { one = λ k n h. rw (lt-ltb n 10 h) refl; more = λ k n h. rw (le-ltb n 10 h) refl }
 
-length_digits : (r n : ℕ) → length (last_digits 10 r n) ≡ r
-length_digits zero n = refl
-length_digits (suc r) n = rw length-append (omega (arith, length_digits r (n / 10)))
+pub decimal_printed : (n : ℕ) → n < 2 ^ 64 → decimal n ≡ printed_decimal n
+decimal_printed n small = decimal_from_appends numeral numeral_appends 20 n small (length-decimal-le 20 n (omega arith) (omega arith) small)
 
 -- a number has no more digits than it may have
 pub length_numeral : (k n : ℕ) → length (numeral k n) ≤ k
@@ -102,15 +71,13 @@ pub length_column : (n : ℕ) → length (column n) ≤ 21
 length_column n = omega (arith, length_numeral 20 n)
 
 -- what `put_number` does: a blank, then the digits
-pub puts_number : (at n k : ℕ) (ds out after : List ℕ) → at + 21 ≤ length out → k ≤ 20 → IsDigitCount 10 1 n k → take k ds ≡ last_digits 10 k n
-    → after ≡ splice (at + 1) (part 0 k (take k ds)) (set out at 32) → Puts at (column n) out after (at + 1 + k)
+pub puts_number : (at n : ℕ) (ds out after : List ℕ) → at + 21 ≤ length out → ds ≡ decimal n → after ≡ splice (at + 1) (part 0 (length ds) ds) (set out at 32)
+    → Puts at (column n) out after (at + 1 + length ds)
 unfolding part
-puts_number at n k ds out after room few fewest made e =
-    let spelt : decimal n ≡ last_digits 10 k n = numeral_digits 20 k n few fewest.0 fewest.1 fewest.2 in
-    let given : decimal n ≡ part 0 k (take k ds) = spelt ∙ sym made ∙ sym (take-take k k ds (omega arith)) in
-    let long : k ≡ length (decimal n) = sym (ap length spelt ∙ length_digits k n) in
-    let rest : Puts (at + 1) (decimal n) (set out at 32) after (at + 1 + k) =
-    record { bytes = e ∙ ap (λ (l : List ℕ). splice (at + 1) l (set out at 32)) (sym given); end = ap (λ (j : ℕ). at + 1 + j) long } in
+puts_number at n ds out after room made e =
+    let given : part 0 (length ds) ds ≡ decimal n = take_all (length ds) ds (omega arith) ∙ made in
+    let rest : Puts (at + 1) (decimal n) (set out at 32) after (at + 1 + length ds) =
+    record { bytes = e ∙ ap (λ (l : List ℕ). splice (at + 1) l (set out at 32)) given; end = ap (λ (l : List ℕ). at + 1 + length l) made } in
     puts_then (puts_one at 32 out (omega arith)) rest (omega (arith, length_numeral 20 n))
 
 -- two digits a byte

@@ -8,7 +8,7 @@ ghost use Rattle.protocol.specs.Formats.{bench_fixed, bench_size, of_command, pr
 ghost use Rattle.protocol.specs.Relations.{Finds};
 
 use crate::records::Found;
-use crate::stream::Stream;
+use crate::stream::{Stream, System};
 use crate::{host_formats, label_formats, records};
 
 // Whose records they are.
@@ -163,26 +163,26 @@ fn whole_size(format: Format, head: &[u8]) -> usize
 }
 
 // The fixed part of the next record.
-fn next_fixed(format: Format, s: Stream, input: &mut [u8], out: &[u8]) -> Found
+fn next_fixed(format: Format, s: Stream, system: System, input: &mut [u8], out: &[u8]) -> Found
     requires { Fits s × (length input.old ≡ 65536) × (length out.now ≡ 65536) }
     ensures { Finds (front_fixed (fixed format (eqb s.offset 0))) s result input.old input.new }
 {
-    let marked = s.whole(input, out, 2);
+    let marked = s.whole(system, input, out, 2);
     if marked.size == 0 {
         return marked;
     }
     let here = marked.stream;
     let at = here.at;
     let fixed = fixed_size(format, s.offset == 0, records::mark(&input[at..at + 2]));
-    here.whole(input, out, fixed)
+    here.whole(system, input, out, fixed)
 }
 
 // The head of the next record.
-fn next_head(format: Format, s: Stream, input: &mut [u8], out: &[u8]) -> Found
+fn next_head(format: Format, s: Stream, system: System, input: &mut [u8], out: &[u8]) -> Found
     requires { Fits s × (length input.old ≡ 65536) × (length out.now ≡ 65536) }
     ensures { Finds (front_head (fixed format (eqb s.offset 0)) (head format)) s result input.old input.new }
 {
-    let part = next_fixed(format, s, input, out);
+    let part = next_fixed(format, s, system, input, out);
     let n = part.size;
     if n == 0 {
         return part;
@@ -190,15 +190,15 @@ fn next_head(format: Format, s: Stream, input: &mut [u8], out: &[u8]) -> Found
     let here = part.stream;
     let at = here.at;
     let size = head_size(format, &input[at..at + n]);
-    here.whole(input, out, size)
+    here.whole(system, input, out, size)
 }
 
 // The next record.
-pub fn next(format: Format, s: Stream, input: &mut [u8], out: &[u8]) -> Found
+pub fn next(format: Format, s: Stream, system: System, input: &mut [u8], out: &[u8]) -> Found
     requires { Fits s × (length input.old ≡ 65536) × (length out.now ≡ 65536) }
     ensures { Finds (front_size (fixed format (eqb s.offset 0)) (head format) (size format)) s result input.old input.new }
 {
-    let head = next_head(format, s, input, out);
+    let head = next_head(format, s, system, input, out);
     let n = head.size;
     if n == 0 {
         return head;
@@ -206,5 +206,5 @@ pub fn next(format: Format, s: Stream, input: &mut [u8], out: &[u8]) -> Found
     let here = head.stream;
     let at = here.at;
     let size = whole_size(format, &input[at..at + n]);
-    here.whole(input, out, size)
+    here.whole(system, input, out, size)
 }

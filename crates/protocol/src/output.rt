@@ -8,10 +8,11 @@ pub fn put_number(out: &mut [u8], at: usize, n: u64) -> usize
     requires { at + 21 ≤ length out.old }
     ensures { Puts at (column n) out.old out.new result }
 {
-    let mut digits = [0u8; 20];
-    let k = io::decimal(n, &mut digits);
+    let mut buffer = itoa::Buffer::new();
+    let digits = buffer.format(n).as_bytes();
+    let k = digits.len();
     out[at] = b' ';
-    wire::copy(&digits[..k], 0, k, out, at + 1);
+    wire::copy(digits, 0, k, out, at + 1);
     at + 1 + k
 }
 

@@ -5,7 +5,7 @@ ghost use Rattle.protocol.specs.Stream.{Fits};
 ghost use Rattle.protocol.specs.Records.{mark_of};
 ghost use Rattle.protocol.specs.Relations.{FindsBytes};
 
-use crate::stream::Stream;
+use crate::stream::{Stream, System};
 
 // What comes next: `size` bytes from the stream's place on, which lie in the buffer, or none where they are cut.
 #[derive(Clone, Copy)]
@@ -24,11 +24,11 @@ pub fn mark(bytes: &[u8]) -> u64
 
 impl Stream {
     // The next n bytes.
-    pub fn whole(self, input: &mut [u8], out: &[u8], n: usize) -> Found
+    pub fn whole(self, system: System, input: &mut [u8], out: &[u8], n: usize) -> Found
         requires { Fits self × (n ≤ 65536) × (length input.old ≡ 65536) × (length out.now ≡ 65536) }
         ensures { FindsBytes n self result input.old input.new }
     {
-        let here = self.want(input, out, n);
+        let here = self.want(system, input, out, n);
         if here.end - here.at < n {
             return Found {
                 size: 0,

@@ -4,7 +4,15 @@ ghost use Rattle.std.specs.Prelude.{◌≡◌, ◌+◌, ◌^◌, ◌≤◌, ◌<
 ghost use Rattle.wire.specs.Wire.{part};
 ghost use Rattle.protocol.specs.Stream.{unread, Fits, Reads, Fills, Wants, Past, with_room};
 
-use libc::{STDIN_FILENO, STDOUT_FILENO};
+use std::io::Read;
+use std::rt::{Stdin, Stdout};
+
+// The system's two streams that a program goes by: it reads the one and writes the other.
+#[derive(Clone, Copy)]
+pub struct System {
+    pub input: Stdin,
+    pub output: Stdout,
+}
 
 // The bytes at..end of the input buffer are not used yet; `at` lies `offset` bytes into the input; the first `used` bytes of the output buffer
 // are not written yet; `ended` says that a read brought no byte.
@@ -26,23 +34,23 @@ pub struct Filled {
 
 // Writes the first n bytes of the output buffer: how many of them are left to write then, which is none. Where a write fails there is nobody to tell. What the
 // system's call took no contract of the kit says, and so neither does this one.
-pub fn flush(out: &[u8], n: usize) -> usize
+pub fn flush(to: Stdout, out: &[u8], n: usize) -> usize
     requires { n ≤ length out.now }
     ensures { result ≡ 0 }
 {
-    io::write_all(STDOUT_FILENO, &out[..n]);
+    let _ = to.write_all(&out[..n]);
     0
 }
 
 // Sees to room for so many bytes more: how many bytes of the output buffer are not written then.
-pub fn make_room(out: &[u8], used: usize, room: usize) -> usize
+pub fn make_room(to: Stdout, out: &[u8], used: usize, room: usize) -> usize
     requires { (used ≤ 65536) × (room ≤ 65536) × (length out.now ≡ 65536) }
     ensures { (result ≡ with_room room used) × (result + room ≤ 65536) }
 {
     if used + room <= 65536 {
         return used;
     }
-    flush(out, used)
+    flush(to, out, used)
 }
 
 // Moves the n bytes from index at on to the front.
@@ -58,22 +66,24 @@ fn move_down(input: &mut [u8], at: usize, n: usize)
 }
 
 // Reads once into the buffer from index end on: how many bytes came, 0 at the end of the input.
-fn read_once(input: &mut [u8], end: usize) -> usize
+fn read_once(mut from: Stdin, input: &mut [u8], end: usize) -> usize
     requires { end ≤ length input.old }
     ensures { Reads end input.old input.new (end + result) }
 {
-    let got = libc::read(STDIN_FILENO, &mut input[end..]);
-    io::count(got, &input[end..])
+    match from.read(&mut input[end..]) {
+        Ok(got) => got,
+        Err(_) => 0,
+    }
 }
 
 // Reads into the buffer from index end on until it holds n bytes or the input ends.
-fn read_until(input: &mut [u8], end: usize, n: usize) -> Filled
+fn read_until(from: Stdin, input: &mut [u8], end: usize, n: usize) -> Filled
     requires { (end ≤ length input.old) × (n ≤ length input.old) }
     ensures { Fills n end input.old input.new result }
 {
     let mut e = end;
     while e < n {
-        let got = read_once(input, e);
+        let got = read_once(from, input, e);
         if got == 0 {
             return Filled {
                 end: e,
@@ -117,7 +127,7 @@ impl Stream {
     }
 
     // The stream with n bytes or more not used, or with all that the input has left.
-    pub fn want(self, input: &mut [u8], out: &[u8], n: usize) -> Stream
+    pub fn want(self, system: System, input: &mut [u8], out: &[u8], n: usize) -> Stream
         requires { Fits self × (n ≤ 65536) × (length input.old ≡ 65536) × (length out.now ≡ 65536) }
         ensures { Wants n self result input.old input.new }
     {
@@ -127,9 +137,9 @@ impl Stream {
         }
         let at = self.at;
         let used = self.used;
-        let unwritten = flush(out, used);
+        let unwritten = flush(system.output, out, used);
         move_down(input, at, left);
-        let filled = read_until(input, left, n);
+        let filled = read_until(system.input, input, left, n);
         Stream {
             at: 0,
             end: filled.end,

@@ -1,0 +1,12 @@
+-- `protocol::output::digit` meets its contract. Assumes nothing.
+use native.Mathlib.Omega.{arith}
+use borrow.Author.Tests.{lt-ltb, le-ltb}
+use Rattle.protocol.proofs.output.digit.Goals as goal
+
+pub returns-then-n-lt10 : goal.returns-then-n-lt10
+returns-then-n-lt10 c =
+    simp (lt-ltb _ _ c.if-n-lt10.true) (omega arith)
+
+pub returns-else-n-lt10 : goal.returns-else-n-lt10
+returns-else-n-lt10 c =
+    simp (le-ltb _ _ c.if-n-lt10.false) (omega arith)
