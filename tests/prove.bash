@@ -1,6 +1,6 @@
 # Sourced, at the top of the checkout, by what builds from the crates: tests/library and tests/program.
 
-# prove CRATE COMMAND: runs rt's command (lib, run, ..) in a crate's folder, with nothing to read, and names each crate as it is begun; what rt said last, if it fails.
+# prove CRATE COMMAND: runs rt's command (lib, run, ..) in a crate's folder, with nothing to read, and names each crate as it is begun; the errors and what rt said last, if it fails.
 prove() {
     local log status was='' line
     log=$(mktemp) || return 1
@@ -11,7 +11,7 @@ prove() {
         fi
     done
     status=${PIPESTATUS[0]}
-    [ "$status" = 0 ] || tail -n 20 -- "$log"
+    [ "$status" = 0 ] || { grep -m 10 -A 4 'error[:[]' -- "$log"; tail -n 5 -- "$log"; }
     rm -f -- "$log"
     return "$status"
 }
