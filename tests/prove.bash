@@ -11,7 +11,7 @@ prove() {
         fi
     done
     status=${PIPESTATUS[0]}
-    [ "$status" = 0 ] || { grep -m 10 -A 4 'error[:[]' -- "$log"; tail -n 5 -- "$log"; }
+    [ "$status" = 0 ] || { grep -m 10 -A 1 -E 'error[:[]|: (no proof|not proved)' -- "$log"; tail -n 5 -- "$log"; }
     rm -f -- "$log"
     return "$status"
 }
