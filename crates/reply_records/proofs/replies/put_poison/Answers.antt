@@ -1,0 +1,9 @@
+-- `reply_records::replies::put_poison` meets its contract. Assumes nothing.
+use Prim.Native.Nat.{◌-◌}
+use borrow.Author.Rules.{rules}
+use Rattle.reply_records.proofs.ReadLaws.{put_poison}
+use Rattle.reply_records.proofs.replies.put_poison.Goals as goal
+
+pub returns : goal.returns
+returns c =
+    put_poison c.args.records.now c.args.i c.put_each.ensures c.poison_record-told.ensures

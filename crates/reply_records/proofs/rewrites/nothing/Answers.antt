@@ -1,0 +1,17 @@
+-- `reply_records::rewrites::nothing` meets its contract: a refusal leaves the room, and what was read is written. Assumes nothing.
+use mathlib.Core.List.{[]}
+use borrow.Author.Rules.{rules}
+use lib.ListN.{length}
+use Rattle.host_replies.specs.Replies.{read_nothing, write_bytes}
+use Rattle.reply_records.proofs.ReplyLaws.{again_refused, again_given}
+use Rattle.reply_records.proofs.rewrites.nothing.Goals as goal
+
+pub returns-then-code-ne0 : goal.returns-then-code-ne0
+returns-then-code-ne0 c =
+    let a = c.args in
+    again_refused (λ x. x) (λ _. write_bytes []) (read_nothing a.bytes.now) (length a.room.now) c.read_nothing-code.ensures c.if-code-ne0.true
+
+pub returns : goal.returns
+returns c =
+    let a = c.args in
+    again_given (λ x. x) (λ _. write_bytes []) (read_nothing a.bytes.now) (length a.room.now) c.read_nothing-code.ensures c.if-code-ne0.false c.write_nothing.ensures
