@@ -2,10 +2,10 @@
 -- pointer ensures of the device (`_gives`). Assumes nothing.
 use mathlib.Core.Path.{◌≡◌, refl, sym, ap, ap₂, subst, ◌∙◌}
 use mathlib.Core.Bool.{Bool, true, false}
-use mathlib.Core.List.{List, ◌∷◌, []}
+use mathlib.Core.List.{List}
 use Prim.Native.Nat.{ℕ, ◌+◌, ◌*◌, ◌≤◌, ◌<◌}
 use native.Mathlib.Omega.{arith}
-use lib.ListN.{length, length-map, length-set, get_or, set}
+use lib.ListN.{length, get_or, set}
 use Rattle.poison.specs.State.{capacity, list_of, ValidRuns, ValidSlots, ValidList, total_in}
 use Rattle.poison.specs.LineTest.{list_in}
 use Rattle.poison.proofs.Laws.{Sized, valid_runs, valid_slots, total_is, valid_more}

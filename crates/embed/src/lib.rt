@@ -1,4 +1,4 @@
-// The device behind a pointer, for C and Rust to call (`rt staticlib embed`). A function here copies nothing that it neither changes nor hands on: it takes the parts of
+// The device behind a pointer, for Rust to call, and for C through crate `embed_c`, which exports these functions under their names. A function here copies nothing that it neither changes nor hands on: it takes the parts of
 // the device that a call sees, calls the mailbox's function over those parts, and stores the parts that changed. Every call that reads or changes
 // the arrays of the poison list lends them where they lie (document 02, W-203). Event status hands on the device by value and make stores one: there the compiler takes the
 // copy away, which is measured and not proved.
@@ -77,8 +77,7 @@ pub struct Line {
 }
 
 // The bytes that a device takes, for a caller that does not know its layout.
-#[unsafe(no_mangle)]
-pub extern "C" fn kulduvost_device_size() -> usize
+pub fn kulduvost_device_size() -> usize
     ensures { result ≡ device_size }
 {
     7672
@@ -86,8 +85,7 @@ pub extern "C" fn kulduvost_device_size() -> usize
 
 // Makes a device of so many units behind the pointer; where it refuses, the device of one volatile unit. What lay there before is not asked to be a device that was made.
 // Ensures that the number and the device left are those of `make`, and that this device is valid.
-#[unsafe(no_mangle)]
-pub extern "C" fn kulduvost_make(device: &mut Device, volatile: u16, persistent: u16) -> u16
+pub fn kulduvost_make(device: &mut Device, volatile: u16, persistent: u16) -> u16
     ensures { Makes (make volatile persistent) (made result device.new) }
 {
     let a = Device::make(volatile, persistent);
@@ -313,8 +311,7 @@ fn run_on_device(
 // follows.
 // Requires a valid device. Ensures that the number, the length, the vector, every byte of the buffer and the device left are those of `outcome`, that every byte of the area is that of
 // `area_after`, that a refusal leaves the device that the end of a due Sanitize leaves, the very same where none is due (`AfterEnding`), and that the device left is valid.
-#[unsafe(no_mangle)]
-pub extern "C" fn kulduvost_command(
+pub fn kulduvost_command(
     device: &mut Device,
     opcode: u16,
     payload: &[u8],
@@ -336,8 +333,7 @@ pub extern "C" fn kulduvost_command(
 // A command of the second mailbox, the pool manager's, with the caller's time (document 02, W-208). The reply is written to the lent buffer; nothing is stored to the device, and a due Sanitize is not ended. Of the device the
 // arrays of the poison list are lent to be read, and the log that the payload names, the clock and the policy are copied out.
 // Requires a valid device, and leaves it. Ensures that the number, the length and every byte of the buffer are those of `pool_answer`.
-#[unsafe(no_mangle)]
-pub extern "C" fn kulduvost_pool_command(
+pub fn kulduvost_pool_command(
     device: &Device,
     opcode: u16,
     payload: &[u8],
@@ -373,13 +369,7 @@ pub extern "C" fn kulduvost_pool_command(
 
 // Event report of a record to a log, at the caller's time. That log alone is copied out and stored back.
 // Requires a valid device. Ensures that the answer and the device left are those of `event_report`, that a refusal leaves the device that the end of a due Sanitize leaves, the very same where none is due, and that the device left is valid.
-#[unsafe(no_mangle)]
-pub extern "C" fn kulduvost_event_report(
-    device: &mut Device,
-    time: u64,
-    log: u8,
-    event: &[u8],
-) -> Event
+pub fn kulduvost_event_report(device: &mut Device, time: u64, log: u8, event: &[u8]) -> Event
     requires { ValidDevice device.old }
     ensures { AfterEnding device.old time (λ (e : Device). EventDone (event_report (state_of device.old) time log event.now) e (event_told result device.new)) }
 {
@@ -403,8 +393,7 @@ pub extern "C" fn kulduvost_event_report(
 
 // Media report of damage: so many lines from an address on, of a type, at the caller's time. The arrays of the poison list are lent.
 // Requires a valid device. Ensures that the answer and the device left are those of `media_report`, that a refusal leaves the device that the end of a due Sanitize leaves, the very same where none is due, and that the device left is valid.
-#[unsafe(no_mangle)]
-pub extern "C" fn kulduvost_media_report(
+pub fn kulduvost_media_report(
     device: &mut Device,
     time: u64,
     address: u64,
@@ -495,8 +484,7 @@ fn line_in<'a>(
 
 // Line test: what the host is told of the line at an address. It carries no time, and ends no Sanitize. Nothing of the list is copied but its count and its flag.
 // Requires a valid device, and leaves it. Ensures the answer of `line_test`.
-#[unsafe(no_mangle)]
-pub extern "C" fn kulduvost_line_test(device: &Device, address: u64) -> Line
+pub fn kulduvost_line_test(device: &Device, address: u64) -> Line
     requires { ValidDevice device.now }
     ensures { LineTold (line_test (state_of device.now) address) result }
 {
@@ -516,8 +504,7 @@ pub extern "C" fn kulduvost_line_test(device: &Device, address: u64) -> Line
 
 // Event status: which logs wait, how many, and the highest-numbered one, 5 where none waits.
 // Requires a valid device, and leaves it. Ensures the answer of `event_status`.
-#[unsafe(no_mangle)]
-pub extern "C" fn kulduvost_event_status(device: &Device) -> Status
+pub fn kulduvost_event_status(device: &Device) -> Status
     requires { ValidDevice device.now }
     ensures { StatusGiven (event_status (state_of device.now)) result }
 {
@@ -526,8 +513,7 @@ pub extern "C" fn kulduvost_event_status(device: &Device) -> Status
 
 // Damage total: the sum of the entries' lengths, over the array of lengths where it lies.
 // Requires a valid device, and leaves it. Ensures the answer of `damage_total`.
-#[unsafe(no_mangle)]
-pub extern "C" fn kulduvost_damage_total(device: &Device) -> u64
+pub fn kulduvost_damage_total(device: &Device) -> u64
     requires { ValidDevice device.now }
     ensures { result ≡ damage_total (state_of device.now) }
 {

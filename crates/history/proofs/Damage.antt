@@ -1,6 +1,6 @@
 -- The promise in words: a line that was reported damaged and not cleared since is never answered Clean, whatever else is called. Assumes nothing.
 use mathlib.Core.Path.{◌≡◌, refl, ap, ◌∙◌}
-use mathlib.Core.Bool.{Bool, true, false, not, ◌&&◌, cond, false≢true, or-true}
+use mathlib.Core.Bool.{Bool, true, false, ◌&&◌, cond, false≢true, or-true}
 use mathlib.Core.List.{List, [], ◌∷◌, ◌++◌}
 use Prim.Native.Nat.{ℕ, ◌+◌}
 use borrow.Author.Tests.{eqb-true, le-leb, lt-ltb}

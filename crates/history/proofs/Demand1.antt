@@ -1,7 +1,6 @@
 -- Demand 1 over every call: one that is refused leaves the device as the end of a due Sanitize leaves it, and gives nothing beside its number. Assumes nothing.
 use mathlib.Core.Path.{◌≡◌, refl, ◌∙◌}
 use Rattle.wire.specs.Returns.{Refused}
-use Rattle.settings.specs.Media.{due}
 use Rattle.mailbox.specs.State.{DeviceState}
 use Rattle.mailbox.proofs.Laws.{refusal, event_refusal, media_refusal, line_refusal, pool_refusal, ended_none}
 use Rattle.history.specs.Calls.{Call, command, event_report, media_report, line_test, event_status, damage_total, pool_command, step}

@@ -5,7 +5,6 @@ use mathlib.Core.Bool.{true}
 use mathlib.Core.List.{List, [], ◌∷◌}
 use Prim.Native.Nat.{ℕ, ◌+◌, ◌≤◌}
 use Rattle.wire.specs.Returns.{started}
-use Rattle.events.specs.Emptied.{emptied}
 use Rattle.settings.specs.Media.{enabled, duration, sanitize, due}
 use Rattle.settings.specs.declared.media.MediaState.{MediaState}
 use Rattle.mailbox.specs.State.{DeviceState, state_of}

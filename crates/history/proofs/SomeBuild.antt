@@ -10,8 +10,7 @@ use borrow.Author.Tests.{le-leb, lt-leb}
 use lib.Dec.{eqb, leb}
 use lib.ListN.{length}
 use Rattle.wire.specs.Wire.{splice}
-use Rattle.poison.specs.Runs.{keeps}
-use Rattle.poison.specs.State.{Entry, entry}
+use Rattle.poison.specs.State.{Entry}
 use Rattle.poison.specs.LineTest as Line
 use Rattle.wire.specs.Returns.{Refused}
 use Rattle.settings.specs.Media.{due}

@@ -14,7 +14,7 @@ use Rattle.mailbox.specs.State.{DeviceState, lines_of, with_logs, with_poison}
 use Rattle.mailbox.specs.Outcome.{Outcome}
 use Rattle.mailbox.specs.Mailbox.{outcome}
 use Rattle.mailbox.specs.DeviceCalls as Device
-use Rattle.history.specs.Calls.{Call, command, event_report, media_report, line_test, step, after}
+use Rattle.history.specs.Calls.{Call, command, event_report, media_report, step, after}
 use Rattle.history.specs.Drain.{read, then_clear}
 
 -- a device of one unit; a label area of zeros, and a reply buffer of 2,048 bytes

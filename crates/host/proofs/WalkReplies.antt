@@ -20,8 +20,7 @@ use Rattle.mailbox.specs.declared.device.Device.{Device}
 use Rattle.commands.specs.Numbers.{poison_records}
 use Rattle.mailbox.specs.Outcome.{Outcome}
 use Rattle.mailbox.specs.State.{lines_of, state_of}
-use Rattle.mailbox.specs.Mailbox.{outcome}
-use Rattle.list_commands.specs.PoisonCommands.{line_of, range_code, list_flags, list_header, list_reply, get_poison_list}
+use Rattle.list_commands.specs.PoisonCommands.{line_of, range_code, list_flags, list_header, list_reply}
 use Rattle.wire.specs.declared.done.Done.{Done}
 use Rattle.wire.specs.Done.{Written, Writes, written, refused}
 use Rattle.host_requests.specs.Requests.{payload, countable, build}

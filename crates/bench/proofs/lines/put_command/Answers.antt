@@ -1,6 +1,5 @@
 -- `bench::lines::put_command` meets its contract: each piece follows the one before it, and there is room for all. Assumes nothing.
 use native.Mathlib.Omega.{arith}
-use borrow.Author.Rules.{rules}
 use Rattle.bench.proofs.LineLaws.{columns_end, bytes_end, command_empty, command_told}
 use Rattle.bench.proofs.lines.put_command.Goals as goal
 

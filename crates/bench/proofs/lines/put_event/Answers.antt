@@ -1,5 +1,4 @@
 -- `bench::lines::put_event` meets its contract: 1 is printed for stored, and 0 for not. Assumes nothing.
-use borrow.Author.Rules.{rules}
 use mathlib.Core.Path.{ap}
 use mathlib.Core.List.{[], ◌∷◌}
 use Prim.Native.Nat.{ℕ}

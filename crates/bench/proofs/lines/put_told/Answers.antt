@@ -1,6 +1,5 @@
 -- `bench::lines::put_told` meets its contract: the first number alone where it is not 0, and otherwise all. Assumes nothing.
 use native.Mathlib.Omega.{arith}
-use borrow.Author.Rules.{rules}
 use lib.ListN.{length-take}
 use Rattle.bench.proofs.LineLaws.{told_refused, told_all}
 use Rattle.bench.proofs.lines.put_told.Goals as goal

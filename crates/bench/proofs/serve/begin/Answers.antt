@@ -1,5 +1,4 @@
 -- `bench::serve::begin` meets its contract: the device made, then its line. Assumes nothing.
-use borrow.Author.Rules.{rules}
 use Rattle.bench.proofs.CallLaws.{begun}
 use Rattle.bench.proofs.serve.begin.Goals as goal
 

@@ -1,7 +1,6 @@
 -- `bench::serve::call_command` meets its contract: the fields read are those of the record's bytes, and the payload is all that comes after them.
 -- Assumes nothing.
 use mathlib.Core.Path.{refl}
-use borrow.Author.Rules.{rules}
 use Rattle.protocol.proofs.Laws.{command_at, area_at, rest_of}
 use Rattle.bench.proofs.serve.call_command.Goals as goal
 

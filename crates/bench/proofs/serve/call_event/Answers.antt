@@ -1,6 +1,5 @@
 -- `bench::serve::call_event` meets its contract: the fields read are those of the record's bytes. Assumes nothing.
 use mathlib.Core.Path.{refl}
-use borrow.Author.Rules.{rules}
 use Rattle.wire.specs.Wire.{part}
 use Rattle.protocol.proofs.Laws.{event_at}
 use Rattle.bench.proofs.serve.call_event.Goals as goal

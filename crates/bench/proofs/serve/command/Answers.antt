@@ -1,6 +1,5 @@
 -- `bench::serve::command` meets its contract: what is printed of the reply buffer is the reply. Assumes nothing.
 use native.Mathlib.Omega.{arith}
-use borrow.Author.Rules.{rules}
 use Rattle.protocol.proofs.Laws.{reply_fits}
 use Rattle.bench.proofs.CallLaws.{command_served}
 use Rattle.bench.proofs.serve.command.Goals as goal

@@ -1,5 +1,4 @@
 -- `bench::serve::line` meets its contract: the call, then its line. Assumes nothing.
-use borrow.Author.Rules.{rules}
 use Rattle.bench.proofs.CallLaws.{line_served}
 use Rattle.bench.proofs.serve.line.Goals as goal
 

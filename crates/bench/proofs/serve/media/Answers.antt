@@ -1,5 +1,4 @@
 -- `bench::serve::media` meets its contract: the call, then its line. Assumes nothing.
-use borrow.Author.Rules.{rules}
 use Rattle.bench.proofs.CallLaws.{media_served}
 use Rattle.bench.proofs.serve.media.Goals as goal
 

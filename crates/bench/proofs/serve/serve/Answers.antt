@@ -7,7 +7,6 @@ use native.Mathlib.Omega.{arith}
 use lib.Dec.{eqb}
 use lib.ListN.{length, take, drop}
 use Rattle.mailbox.specs.declared.device.Device.{Device}
-use Rattle.mailbox.specs.State.{ValidDevice}
 use Rattle.protocol.specs.Stream.{Fits}
 use Rattle.protocol.specs.Records.{mark_of, OneRecord}
 use Rattle.protocol.specs.Runs.{reading, machine_of, Steps}

@@ -1,7 +1,5 @@
 -- `host::walk::ask` meets its contract. Assumes nothing.
 use mathlib.Core.Path.{refl}
-use Prim.Native.Nat.{◌-◌}
-use borrow.Author.Rules.{rules}
 use Rattle.host.proofs.WalkReplies.{request_built}
 use Rattle.host.proofs.WalkCalls.{asked}
 use Rattle.host.proofs.walk.ask.Goals as goal

@@ -1,7 +1,5 @@
 -- `host::walk::ask_lines` meets its contract. Assumes nothing.
 use Rattle.host.proofs.WalkCalls.{range_asked}
-use Prim.Native.Nat.{◌-◌}
-use borrow.Author.Rules.{rules}
 use Rattle.host.proofs.walk.ask_lines.Goals as goal
 
 pub returns : goal.returns

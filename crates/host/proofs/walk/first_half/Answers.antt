@@ -1,5 +1,4 @@
 -- `host::walk::first_half` meets its contract. Assumes nothing.
-use borrow.Author.Rules.{rules}
 use Rattle.host.proofs.WalkReplies.{half_empty, half_clear, half_set}
 use Rattle.host.proofs.walk.first_half.Goals as goal
 

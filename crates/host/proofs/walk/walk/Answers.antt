@@ -7,7 +7,7 @@ use Rattle.host.specs.Walking.{Askable}
 use Rattle.host.proofs.Halvings.{few_records}
 use Rattle.host.proofs.WalkCalls.{asked_code, range_askable, range_few, by_device, too_many, given}
 use mathlib.Core.Path.{◌≡◌, sym, ◌∙◌}
-use Prim.Native.Nat.{◌≤◌, ◌+◌, ◌-◌}
+use Prim.Native.Nat.{◌≤◌, ◌+◌}
 use native.Mathlib.Omega.{arith}
 use borrow.Author.Rules.{rules}
 use Rattle.host.proofs.walk.walk.Goals as goal

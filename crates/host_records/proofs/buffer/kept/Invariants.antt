@@ -1,11 +1,9 @@
 -- `host_records::buffer::kept` meets its contract. The invariant: whether the bytes from index i on are still as filled is whether those from index n on are. The measure
 -- is what is left of the buffer. Assumes nothing.
-use mathlib.Core.Path.{◌≡◌, refl, sym, ◌∙◌}
+use mathlib.Core.Path.{◌≡◌}
 use Prim.Native.Nat.{◌≤◌, ◌-◌}
-use borrow.Author.Rules.{rules}
 use lib.ListN.{length, drop}
 use Rattle.host_records.specs.Lines.{still}
-use Rattle.host_records.proofs.BufferLaws.{still_none, still_more, still_other}
 use Rattle.host_records.proofs.buffer.kept.Given as goal
 
 abbrev pub invariant-loop-i : goal.invariant-loop-i

@@ -1,7 +1,6 @@
 -- `host_records::buffer::put_buffer` meets its contract: each piece follows the one before it, and there is room for all. Assumes nothing.
 use Prim.Native.Nat.{◌≤◌, ◌+◌}
 use native.Mathlib.Omega.{arith}
-use borrow.Author.Rules.{rules}
 use mathlib.Core.List.{[], ◌∷◌}
 use mathlib.Core.Path.{◌≡◌}
 use lib.ListN.{length, take, length-take}

@@ -1,7 +1,6 @@
 -- `host_records::buffer::put_line` meets its contract: the columns, and the line's end after them. Assumes nothing.
 use Prim.Native.Nat.{◌<◌}
 use native.Mathlib.Omega.{arith}
-use borrow.Author.Rules.{rules}
 use lib.ListN.{length}
 use Rattle.host_records.proofs.BufferLaws.{buffer_short, buffer_ends}
 use Rattle.host_records.proofs.buffer.put_line.Goals as goal

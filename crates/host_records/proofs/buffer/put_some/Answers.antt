@@ -1,7 +1,6 @@
 -- `host_records::buffer::put_some` meets its contract: two bytes where there are none, and otherwise the digits. Assumes nothing.
 use mathlib.Core.Path.{sym}
 use native.Mathlib.Omega.{arith}
-use borrow.Author.Rules.{rules}
 use lib.ListN.{length-set}
 use Rattle.protocol.proofs.Laws.{puts_two, puts_as, some_bytes}
 use Rattle.host_records.proofs.BufferLaws.{no_bytes}

@@ -1,8 +1,7 @@
 -- `host_records::requests::build_request` meets its contract: each opcode's request is built. Assumes nothing.
 use mathlib.Core.Path.{◌≡◌, refl, sym, ap, ◌∙◌}
-use Prim.Native.Nat.{ℕ, ◌≤◌, ◌-◌}
+use Prim.Native.Nat.{ℕ, ◌≤◌}
 use native.Mathlib.Omega.{arith}
-use borrow.Author.Rules.{rules}
 use lib.ListN.{length}
 use Rattle.host_requests.specs.Requests.{set_event_interrupt_policy, set_timestamp, get_poison_list, inject_poison}
 use Rattle.protocol.specs.HostFormats.{opcode_of, request_head}

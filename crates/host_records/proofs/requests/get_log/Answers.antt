@@ -1,5 +1,4 @@
 use mathlib.Core.Path.{◌∙◌}
-use Prim.Native.Nat.{◌-◌}
 use borrow.Author.Rules.{rules}
 use Rattle.host_requests.specs.Requests.{get_log}
 use Rattle.host_records.proofs.HostLaws.{built_as, array_copied}

@@ -1,11 +1,8 @@
 -- `host_records::requests::read_handles` meets its contract. The invariant: the first i handles are read. The measure is what is left of them. Assumes nothing.
-use mathlib.Core.Path.{◌≡◌, sym, ap, ◌∙◌}
-use Prim.Native.Nat.{ℕ, ◌≤◌, ◌-◌}
-use native.Mathlib.Omega.{arith}
-use borrow.Author.Rules.{rules}
+use mathlib.Core.Path.{◌≡◌}
+use Prim.Native.Nat.{◌≤◌, ◌-◌}
 use lib.ListN.{length, take}
 use Rattle.events.specs.Clear.{handles_at}
-use Rattle.host_records.proofs.HostLaws.{no_handles, handles_turn}
 use Rattle.host_records.proofs.requests.read_handles.Given as goal
 
 abbrev pub invariant-loop-i : goal.invariant-loop-i

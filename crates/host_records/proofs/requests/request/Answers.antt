@@ -1,7 +1,5 @@
 -- `host_records::requests::request` meets its contract. Assumes nothing.
-use Prim.Native.Nat.{◌-◌}
 use native.Mathlib.Omega.{arith}
-use borrow.Author.Rules.{rules}
 use lib.ListN.{get_or}
 use lib.ListN.{length-replicate}
 use Rattle.wire.specs.Wire.{field}

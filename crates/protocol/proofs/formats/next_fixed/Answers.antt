@@ -35,18 +35,18 @@ whole-requires c =
 pub shape_of-input : goal.shape_of-input
 shape_of-input c =
     let kept : length c.whole-marked.new.input ≡ 65536 = omega (arith, c.whole-marked.auto, c.requires.1) in
-    let kept-2 : length c.whole.new.input ≡ 65536 = omega (arith, c.whole.auto, kept) in
-    omega (arith, kept-2, c.requires.1)
+    let kept_2 : length c.whole.new.input ≡ 65536 = omega (arith, c.whole.auto, kept) in
+    omega (arith, kept_2, c.requires.1)
 
 pub returns : goal.returns
 unfolding front_fixed
 returns c =
     let marked : c.whole-marked.result.size ≡ 2 = found_all 2 c.whole-marked.ensures c.if-marked-eq0.false in
     let kept : length c.whole-marked.new.input ≡ 65536 = omega (arith, c.whole-marked.auto, c.requires.1) in
-    let kept-2 : length c.whole.new.input ≡ 65536 = omega (arith, c.whole.auto, kept) in
+    let kept_2 : length c.whole.new.input ≡ 65536 = omega (arith, c.whole.auto, kept) in
     let a = c.args in
     let size = fixed a.format (eqb a.s.offset 0) in
     let first = c.whole-marked in
     let at = first.result.stream.at in
     finds_told (λ h. size (mark_of h)) (λ _. 2) first.result c.whole.result (at + 2 - at) c.fixed_size-fixed.result (local_whole 2) first.ensures.found c.if-marked-eq0.false
-    (omega (arith, marked)) (c.fixed_size-fixed.ensures ∙ ap size c.mark.ensures) c.whole.ensures kept kept-2
+    (omega (arith, marked)) (c.fixed_size-fixed.ensures ∙ ap size c.mark.ensures) c.whole.ensures kept kept_2

@@ -50,17 +50,17 @@ whole-requires c =
 pub shape_of-input : goal.shape_of-input
 shape_of-input c =
     let kept : length c.next_fixed-part.new.input ≡ 65536 = omega (arith, c.next_fixed-part.auto, c.requires.1) in
-    let kept-2 : length c.whole.new.input ≡ 65536 = omega (arith, c.whole.auto, kept) in
-    omega (arith, kept-2, c.requires.1)
+    let kept_2 : length c.whole.new.input ≡ 65536 = omega (arith, c.whole.auto, kept) in
+    omega (arith, kept_2, c.requires.1)
 
 pub returns : goal.returns
 unfolding front_head front_fixed
 returns c =
     let kept : length c.next_fixed-part.new.input ≡ 65536 = omega (arith, c.next_fixed-part.auto, c.requires.1) in
-    let kept-2 : length c.whole.new.input ≡ 65536 = omega (arith, c.whole.auto, kept) in
+    let kept_2 : length c.whole.new.input ≡ 65536 = omega (arith, c.whole.auto, kept) in
     let format = c.args.format in
     let first = eqb c.args.s.offset 0 in
     let found = c.next_fixed-part in
     let at = found.result.stream.at in
     finds_told (head format) (told_fixed (fixed format first)) found.result c.whole.result (at + found.result.size - at) c.head_size-size.result (local_fixed (fixed format first) (head format) (size format) (sized format first)) found.ensures c.if-n-eq0.false
-    (omega arith) c.head_size-size.ensures.0 c.whole.ensures kept kept-2
+    (omega arith) c.head_size-size.ensures.0 c.whole.ensures kept kept_2

@@ -1,7 +1,7 @@
 -- `reply_records::replies::identity` meets its contract. Assumes nothing.
 use mathlib.Core.Path.{◌≡◌, ap, ◌∙◌}
 use mathlib.Core.List.{List, [], ◌∷◌, ◌++◌}
-use Prim.Native.Nat.{ℕ, ◌+◌, ◌-◌, ◌≤◌}
+use Prim.Native.Nat.{ℕ, ◌+◌, ◌≤◌}
 use native.Mathlib.Omega.{arith}
 use borrow.Author.Rules.{rules}
 use lib.ListN.{length, take}
@@ -26,20 +26,20 @@ put_bytes-to-requires c =
 
 pub put_sizes-end-requires : goal.put_sizes-end-requires
 put_sizes-end-requires c =
-    let version-long : length c.read_identity-read.result.fields.version ≡ 16 = search rules in
+    let version_long : length c.read_identity-read.result.fields.version ≡ 16 = search rules in
     let wide : c.put_bytes-to.result + 300 ≤ length c.put_bytes-to.new.out = let put = c.put_columns-at in
     let x = c.read_identity-read.result in
-    let long : length x.fields.version ≡ 16 = version-long in
+    let long : length x.fields.version ≡ 16 = version_long in
     let all : length (take 16 x.fields.version) ≡ 16 = ap length (take_all 16 x.fields.version (omega (arith, long))) ∙ long in
     omega (arith, c.put_bytes-to.ensures.end, length_hex (take 16 x.fields.version), all, c.put_bytes-to.auto.out, put.ensures.end, length_columns (x.code ∷ []), put.auto.out, c.requires.0) in
     omega (arith, wide)
 
 pub end_line-requires : goal.end_line-requires
 end_line-requires c =
-    let version-long : length c.read_identity-read.result.fields.version ≡ 16 = search rules in
+    let version_long : length c.read_identity-read.result.fields.version ≡ 16 = search rules in
     let wide : c.put_bytes-to.result + 300 ≤ length c.put_bytes-to.new.out = let put = c.put_columns-at in
     let x = c.read_identity-read.result in
-    let long : length x.fields.version ≡ 16 = version-long in
+    let long : length x.fields.version ≡ 16 = version_long in
     let all : length (take 16 x.fields.version) ≡ 16 = ap length (take_all 16 x.fields.version (omega (arith, long))) ∙ long in
     omega (arith, c.put_bytes-to.ensures.end, length_hex (take 16 x.fields.version), all, c.put_bytes-to.auto.out, put.ensures.end, length_columns (x.code ∷ []), put.auto.out, c.requires.0) in
     let sizes = c.put_sizes-end in
@@ -47,17 +47,17 @@ end_line-requires c =
 
 pub returns : goal.returns
 returns c =
-    let version-long : length c.read_identity-read.result.fields.version ≡ 16 = search rules in
+    let version_long : length c.read_identity-read.result.fields.version ≡ 16 = search rules in
     let wide : c.put_bytes-to.result + 300 ≤ length c.put_bytes-to.new.out = let put = c.put_columns-at in
     let x = c.read_identity-read.result in
-    let long : length x.fields.version ≡ 16 = version-long in
+    let long : length x.fields.version ≡ 16 = version_long in
     let all : length (take 16 x.fields.version) ≡ 16 = ap length (take_all 16 x.fields.version (omega (arith, long))) ∙ long in
     omega (arith, c.put_bytes-to.ensures.end, length_hex (take 16 x.fields.version), all, c.put_bytes-to.auto.out, put.ensures.end, length_columns (x.code ∷ []), put.auto.out, c.requires.0) in
     let put = c.put_columns-at in
     let bytes = c.put_bytes-to in
     let sizes = c.put_sizes-end in
     let x = c.read_identity-read.result in
-    let long : length x.fields.version ≡ 16 = version-long in
+    let long : length x.fields.version ≡ 16 = version_long in
     let version = ap (λ (l : List ℕ). 32 ∷ hex l) (take_all 16 x.fields.version (omega (arith, long))) in
     let room = wide in
     let same : length bytes.new.out ≡ length put.new.out = bytes.auto.out in

@@ -1,7 +1,7 @@
 -- `reply_records::replies::policy` meets its contract. Assumes nothing.
 use mathlib.Core.Path.{◌≡◌, ap}
 use mathlib.Core.List.{List, ◌∷◌}
-use Prim.Native.Nat.{ℕ, ◌-◌}
+use Prim.Native.Nat.{ℕ}
 use borrow.Author.Rules.{rules}
 use lib.ListN.{length}
 use Rattle.host_replies.specs.Replies.{read_policy}

@@ -1,8 +1,6 @@
 -- `reply_records::replies::put_event` meets its contract. Assumes nothing.
 use mathlib.Core.Path.{◌≡◌, refl, ap}
-use Prim.Native.Nat.{◌-◌}
 use native.Mathlib.Omega.{arith}
-use borrow.Author.Rules.{rules}
 use lib.ListN.{length}
 use Rattle.host_replies.specs.Replies.{event_record}
 use Rattle.reply_records.proofs.ReadLaws.{event_short, put_event}

@@ -1,6 +1,4 @@
 -- `reply_records::replies::put_poison` meets its contract. Assumes nothing.
-use Prim.Native.Nat.{◌-◌}
-use borrow.Author.Rules.{rules}
 use Rattle.reply_records.proofs.ReadLaws.{put_poison}
 use Rattle.reply_records.proofs.replies.put_poison.Goals as goal
 

@@ -1,11 +1,9 @@
 -- `reply_records::replies::put_record` meets its contract. Assumes nothing.
 use mathlib.Core.Path.{◌≡◌, ap}
-use Prim.Native.Nat.{◌-◌}
 use native.Mathlib.Omega.{arith}
-use borrow.Author.Rules.{rules}
 use Rattle.host_replies.specs.declared.counted.Kind.TheVariants.{EventRecords, SupportedLogs, PoisonList}
 use Rattle.reply_records.specs.HostReplies.{record_room}
-use Rattle.reply_records.proofs.ReadLaws.{put_event, put_log, put_poison, by_kind}
+use Rattle.reply_records.proofs.ReadLaws.{by_kind}
 use Rattle.reply_records.proofs.replies.put_record.Goals as goal
 
 pub put_event-requires : goal.put_event-requires

@@ -1,11 +1,9 @@
 -- `reply_records::replies::put_records` meets its contract. The invariant: the first i records are put. The measure is what is left of them. Assumes nothing.
 use mathlib.Core.Path.{◌≡◌, refl, ap, subst, ◌∙◌}
-use Prim.Native.Nat.{ℕ, ◌+◌, ◌*◌, ◌-◌, ◌≤◌}
+use Prim.Native.Nat.{ℕ, ◌+◌, ◌*◌, ◌≤◌}
 use native.Mathlib.Nat.{mul-one, mul-add}
 use native.Mathlib.Omega.{arith}
 use borrow.Author.Rules.{rules}
-use lib.ListN.{length}
-use Rattle.protocol.specs.Relations.{Puts}
 use Rattle.protocol.proofs.Laws.{puts_nothing, puts_then, puts_as}
 use Rattle.reply_records.specs.HostReplies.{each_of, record_columns, record_room}
 use Rattle.reply_records.proofs.ReadLaws.{each_none, each_more, room_step}

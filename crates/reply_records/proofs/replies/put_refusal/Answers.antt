@@ -1,6 +1,4 @@
 -- `reply_records::replies::put_refusal` meets its contract. Assumes nothing.
-use Prim.Native.Nat.{◌-◌}
-use borrow.Author.Rules.{rules}
 use Rattle.protocol.proofs.Laws.{puts_line_as}
 use Rattle.reply_records.proofs.ReadLaws.{refusal_placed, refusal_plain}
 use Rattle.reply_records.proofs.replies.put_refusal.Goals as goal

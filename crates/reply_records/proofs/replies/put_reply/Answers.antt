@@ -1,7 +1,5 @@
 -- `reply_records::replies::put_reply` meets its contract. Assumes nothing.
 use native.Mathlib.Omega.{arith}
-use Prim.Native.Nat.{◌-◌}
-use borrow.Author.Rules.{rules}
 use Rattle.reply_records.specs.HostReplies.{reply_line}
 use Rattle.reply_records.proofs.ReadLaws.{line_by, line_none}
 use Rattle.reply_records.proofs.replies.put_reply.Goals as goal

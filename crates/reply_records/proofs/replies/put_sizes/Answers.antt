@@ -1,7 +1,5 @@
 -- `reply_records::replies::put_sizes` meets its contract. Assumes nothing.
-use Prim.Native.Nat.{◌-◌}
 use native.Mathlib.Omega.{arith}
-use borrow.Author.Rules.{rules}
 use Rattle.protocol.proofs.Laws.{length_columns}
 use Rattle.reply_records.specs.HostReplies.{identity_numbers}
 use Rattle.reply_records.proofs.replies.put_sizes.Goals as goal

@@ -1,8 +1,6 @@
 -- `reply_records::replies::read_reply` meets its contract. Assumes nothing.
 use mathlib.Core.Path.{ap}
-use Prim.Native.Nat.{◌-◌}
 use native.Mathlib.Omega.{arith}
-use borrow.Author.Rules.{rules}
 use lib.ListN.{length, length-drop}
 use Rattle.protocol.proofs.Laws.{rest_of}
 use Rattle.reply_records.specs.HostReplies.{serve_reply}

@@ -1,6 +1,4 @@
 -- `reply_records::replies::timestamp` meets its contract. Assumes nothing.
-use Prim.Native.Nat.{◌-◌}
-use borrow.Author.Rules.{rules}
 use Rattle.host_replies.specs.Replies.{read_timestamp}
 use Rattle.reply_records.specs.HostReplies.{time_line}
 use Rattle.reply_records.proofs.ReadLaws.{line_refused, line_given}

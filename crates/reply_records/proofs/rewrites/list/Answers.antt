@@ -2,7 +2,6 @@
 use mathlib.Core.Path.{sym, ap, ◌∙◌}
 use Prim.Native.Nat.{◌≤◌}
 use native.Mathlib.Omega.{arith}
-use borrow.Author.Rules.{rules}
 use lib.ListN.{length, drop}
 use Rattle.host_replies.specs.declared.counted.Kind.TheVariants.{PoisonList}
 use Rattle.host_replies.specs.Counted.{header_size}

@@ -1,5 +1,4 @@
 -- `reply_records::rewrites::log` meets its contract: a refusal leaves the room, and what was read is written. Assumes nothing.
-use borrow.Author.Rules.{rules}
 use lib.ListN.{length}
 use Rattle.host_replies.specs.Replies.{read_log, write_bytes}
 use Rattle.reply_records.proofs.ReplyLaws.{again_refused, again_given}

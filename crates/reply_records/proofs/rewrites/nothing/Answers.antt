@@ -1,6 +1,5 @@
 -- `reply_records::rewrites::nothing` meets its contract: a refusal leaves the room, and what was read is written. Assumes nothing.
 use mathlib.Core.List.{[]}
-use borrow.Author.Rules.{rules}
 use lib.ListN.{length}
 use Rattle.host_replies.specs.Replies.{read_nothing, write_bytes}
 use Rattle.reply_records.proofs.ReplyLaws.{again_refused, again_given}

@@ -1,6 +1,5 @@
 -- `reply_records::rewrites::rewrite` meets its contract: each opcode's reply is read and written again. Assumes nothing.
 use native.Mathlib.Omega.{arith}
-use borrow.Author.Rules.{rules}
 use lib.ListN.{length}
 use Rattle.reply_records.specs.HostRewrites.{written_again}
 use Rattle.reply_records.proofs.ReplyLaws.{by_opcode, by_no_opcode}

@@ -1,0 +1,18 @@
+-- `probe::serve::run` meets its contract. The invariant: the buffers and the label store keep their lengths, the size lent lies in the store, the device is valid, the stream's places lie in the buffers, and
+-- where the program is now is a run away from where it began. The measure is what is left of the offsets. Assumes nothing.
+use mathlib.Core.Path.{◌≡◌}
+use Prim.Native.Nat.{◌-◌, ◌≤◌}
+use lib.ListN.{length}
+use Rattle.mailbox.specs.State.{ValidDevice}
+use Rattle.protocol.specs.Stream.{Fits}
+use Rattle.protocol.specs.Runs.{machine_of, Steps}
+use Rattle.probe.specs.Calls.{probe}
+use Rattle.probe.specs.Relations.{kept_of}
+use Rattle.probe.proofs.serve.run.Given as goal
+
+abbrev pub invariant-loop-s : goal.invariant-loop-s
+invariant-loop-s l = (length l.input ≡ 65536) × (length l.out ≡ 65536) × (length l.reply ≡ 65536) × ValidDevice l.device × Fits l.s
+    × Steps probe (machine_of (kept_of l.initial.device l.initial.store l.initial.lent) l.initial.s l.initial.input l.initial.out) (machine_of (kept_of l.device l.store l.lent) l.s l.input l.out) × (length l.store ≡ 8192) × (l.lent ≤ 8192)
+
+abbrev pub decreases-loop-s : goal.decreases-loop-s
+decreases-loop-s l = 9223372036854775808 - l.s.offset
