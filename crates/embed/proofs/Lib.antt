@@ -1,4 +1,7 @@
 -- The laws of crate `embed`.
+pub mod Steps
+pub mod Indexed
+pub mod Lending
 pub mod Parts
 pub mod LineLaws
 pub mod Header

@@ -2,17 +2,23 @@
 -- pointer ensures of the device (`_gives`). Assumes nothing.
 use mathlib.Core.Path.{◌≡◌, refl, sym, ap, ap₂, subst, ◌∙◌}
 use mathlib.Core.Bool.{Bool, true, false}
-use mathlib.Core.List.{List}
+use mathlib.Core.List.{List, ◌∷◌, []}
 use Prim.Native.Nat.{ℕ, ◌+◌, ◌*◌, ◌≤◌, ◌<◌}
 use native.Mathlib.Omega.{arith}
-use lib.ListN.{length, get_or, set}
+use lib.ListN.{length, length-set, get_or, set}
+use denote.Laws.{Is}
+use denote.Struct.Laws as LL
 use Rattle.poison.specs.State.{capacity, list_of, ValidRuns, ValidSlots, ValidList, total_in}
 use Rattle.poison.specs.LineTest.{list_in}
+use Rattle.poison.specs.contracts.list.PoisonList as PoisonListT
+use Rattle.poison.proofs.list.PoisonList.TheLaws as PoisonListL
 use Rattle.poison.proofs.Laws.{Sized, valid_runs, valid_slots, total_is, valid_more}
 use Rattle.events.specs.Log.{ValidLog, blank}
 use Rattle.events.specs.Emptied.{Empties, EmptiesAll}
 use Rattle.events.specs.declared.log.Log.{Log}
 use Rattle.events.proofs.Laws.{valid_set, set_five}
+use Rattle.events.specs.contracts.log.Log as LogT
+use Rattle.events.proofs.log.Log.TheLaws as LogL
 use Rattle.mailbox.specs.declared.device.Device.{Device}
 use Rattle.mailbox.specs.declared.by_parts.AreaParts.{AreaParts}
 use Rattle.mailbox.specs.declared.by_parts.ListLeft.{ListLeft}
@@ -35,10 +41,29 @@ use Rattle.mailbox.specs.ByParts.{AreaAnswered, of_area, of_list, of_injection, 
 use Rattle.settings.specs.Media.{enabled, due}
 use Rattle.settings.specs.declared.media.MediaState.{MediaState}
 use Rattle.mailbox.proofs.Laws.{ends_none, ends_due, after_command, after_event, after_media, not_area, not_area_sized, other_leaves, numbered_none, command_vector, list_parts_answered, inject_parts_answered, log_parts_answered, settings_parts_answered, pool_parts_answered, event_parts_done, media_parts_done}
+use Rattle.mailbox.specs.contracts.device.Device as DeviceT
+use Rattle.mailbox.proofs.device.Device.TheLaws as DeviceL
 use Rattle.labels.specs.Labels.{label_size}
 use Rattle.embed.specs.declared.Done.{Done}
 use Rattle.embed.specs.declared.Line.{Line}
 use Rattle.embed.specs.Left.{answered, LogEmptied, WorkEnded, Commanded, WithoutArea, LineTold, seen}
+use Rattle.embed.proofs.Indexed.{count}
+
+-- what lies behind the pointer is a device: each number fits its field, each array has its length
+abbrev pub Held : Device → Type 0
+Held d = Is DeviceT.the_row d (LL.val DeviceT.the_type DeviceL.the_laws d ∷ [])
+
+list_held : (d : Device) → Held d → Is PoisonListT.the_row d.poison (LL.val PoisonListT.the_type PoisonListL.the_laws d.poison ∷ [])
+list_held d was = (LL.owed DeviceT.the_type DeviceL.the_laws d _ was).1.1.1.1.1.0
+
+pub sized : (d : Device) → Held d → Sized d.poison
+sized d was =
+    let owed = LL.owed PoisonListT.the_type PoisonListL.the_laws d.poison _ (list_held d was) in
+    record { starts = owed.0.1.0.1; lengths = owed.1.0.1.0.1; kinds = owed.1.1.0.1.0.1 }
+
+-- there are five logs
+five : (d : Device) → Held d → length d.logs ≡ 5
+five d was = count LogT.the_type LogL.the_laws 5 d.logs _ (LL.owed DeviceT.the_type DeviceL.the_laws d _ was).1.1.1.1.0
 
 -- ---- the line test
 -- a device's list is valid on the largest device
@@ -47,7 +72,7 @@ any_lines d v = valid_more (omega (arith, v.few_units)) v.poison
 
 pub line_in_asks : (d : Device) (address : ℕ) → ValidDevice d → Sized d.poison
     → (d.volatile + d.persistent ≤ most_units) × ValidRuns capacity d.poison.count d.poison.starts d.poison.lengths × (length d.poison.kinds ≡ 256)
-line_in_asks d address v sized = (v.few_units, valid_runs d.poison sized (any_lines d v), sized.kinds)
+line_in_asks d address v long = (v.few_units, valid_runs d.poison long (any_lines d v), long.kinds)
 
 -- the test sees no other part of the device
 abbrev seen_of : Device → DeviceState
@@ -61,32 +86,38 @@ line_in_gives d address v r told = record { code = told.code; answer = told.answ
 pub total_in_asks : (d : Device) → ValidDevice d → d.poison.count ≤ 256
 total_in_asks d v = v.poison.few
 
-pub total_in_gives : (d : Device) → Sized d.poison → (r : ℕ) → r ≡ total_in d.poison.count d.poison.lengths → r ≡ damage_total (state_of d)
-total_in_gives d sized r e = e ∙ total_is d.poison sized
+pub total_in_gives : (d : Device) → ValidDevice d → Sized d.poison → (r : ℕ) → r ≡ total_in d.poison.count d.poison.lengths → r ≡ damage_total (state_of d)
+total_in_gives d v long r e = e ∙ total_is d.poison long
 
 -- ---- a command of the second mailbox (document 02, W-208)
-module _ (d : Device) (opcode : ℕ) (payload : List ℕ) (time : ℕ) (reply : List ℕ) (v : ValidDevice d) (k : ℕ) (named : (k ≡ log_named payload) × (k < 5)) where
-  pub pool_command_in_asks : Sized d.poison
-      → (d.volatile + d.persistent ≤ most_units) × ValidSlots (unit_lines * (d.volatile + d.persistent)) d.poison.count d.poison.starts d.poison.lengths d.poison.kinds
-      × ValidLog (get_or d.logs k blank)
-  pool_command_in_asks sized = (v.few_units, valid_slots d.poison sized v.poison, v.logs.each k named.1)
+module _ (d : Device) (opcode : ℕ) (payload : List ℕ) (time : ℕ) (reply : List ℕ) (v : ValidDevice d) where
+  module _ (long : Sized d.poison) (k : ℕ) (named : (k ≡ log_named payload) × (k < 5)) where
+    pub pool_command_in_asks : (d.volatile + d.persistent ≤ most_units) × ValidSlots (unit_lines * (d.volatile + d.persistent)) d.poison.count d.poison.starts d.poison.lengths d.poison.kinds
+        × ValidLog (get_or d.logs k blank)
+    pool_command_in_asks = (v.few_units, valid_slots d.poison long v.poison, v.logs.each k named.1)
 
-  pub pool_command_in_gives : (r : Wire.Done) (after : List ℕ)
-      → PoolIn d.volatile d.persistent d.clock d.policy (get_or d.logs k blank) d.poison opcode payload time r reply after
-      → Replied (pool_answer (state_of d) opcode payload time (length reply)) r reply after
-  pool_command_in_gives r after a = pool_parts_answered d named.0 a
+  module _ (k : ℕ) (named : (k ≡ log_named payload) × (k < 5)) where
+    pub pool_command_in_gives : (r : Wire.Done) (after : List ℕ)
+        → PoolIn d.volatile d.persistent d.clock d.policy (get_or d.logs k blank) d.poison opcode payload time r reply after
+        → Replied (pool_answer (state_of d) opcode payload time (length reply)) r reply after
+    pool_command_in_gives r after a = pool_parts_answered d named.0 a
 
 -- ---- the end of a Sanitize: one log
-module _ (d : Device) (number : ℕ) (v : ValidDevice d) (k : ℕ) (named : (k ≡ log_at number) × (k < 5)) where
-  pub emptied_asks : ValidLog (get_or d.logs k blank)
-  emptied_asks = v.logs.each k named.1
+module _ (d : Device) (number : ℕ) (v : ValidDevice d) where
+  module _ (k : ℕ) (named : (k ≡ log_at number) × (k < 5)) where
+    pub emptied_asks : ValidLog (get_or d.logs k blank)
+    emptied_asks = v.logs.each k named.1
 
-  pub emptied_gives : length d.logs ≡ 5 → (r : Log) → Empties (get_or d.logs k blank) r → LogEmptied d (log_at number) (with_log d k r) × ValidDevice (with_log d k r) × (length d.logs ≡ 5)
-  emptied_gives five r e = (
-    subst (λ (j : ℕ). LogEmptied d j (with_log d k r)) named.0 (record { log = r; empties = e; left = refl }),
-    record { some_unit = v.some_unit; few_units = v.few_units; logs = valid_set d.logs k r five named.1 v.logs e.valid; poison = v.poison },
-    five,
-  )
+  module _ (many : length d.logs ≡ 5) (k : ℕ) (named : (k ≡ log_at number) × (k < 5)) where
+    pub emptied_gives : (r : Log) → Empties (get_or d.logs k blank) r → LogEmptied d (log_at number) (with_log d k r) × ValidDevice (with_log d k r)
+    emptied_gives r e = (
+      subst (λ (j : ℕ). LogEmptied d j (with_log d k r)) named.0 (record { log = r; empties = e; left = refl }),
+      record { some_unit = v.some_unit; few_units = v.few_units; logs = valid_set d.logs k r many named.1 v.logs e.valid; poison = v.poison },
+    )
+
+-- a log put in its place leaves their number
+pub logs_stay : (k : ℕ) (b c : Device) → LogEmptied b k c → length c.logs ≡ length b.logs
+logs_stay k b c e = ap (λ (x : Device). length x.logs) e.left ∙ length-set b.logs k e.log
 
 -- a device with these logs
 abbrev with : Device → List Log → Device
@@ -113,14 +144,19 @@ all_emptied d d1 d2 d3 d4 d5 many e1 e2 e3 e4 e5 = go d.logs refl
           s5.0 ∙ ap (with d) (sym at),
         )
 
-module _ (d : Device) (v : ValidDevice d) (d1 : Device) (e1 : LogEmptied d (log_at 0) d1 × ValidDevice d1 × (length d.logs ≡ 5)) (d2 : Device) (e2 : LogEmptied d1 (log_at 1) d2 × ValidDevice d2 × (length d1.logs ≡ 5))
-    (d3 : Device) (e3 : LogEmptied d2 (log_at 2) d3 × ValidDevice d3 × (length d2.logs ≡ 5)) (d4 : Device) (e4 : LogEmptied d3 (log_at 3) d4 × ValidDevice d4 × (length d3.logs ≡ 5))
-    (d5 : Device) (e5 : LogEmptied d4 (log_at 4) d5 × ValidDevice d5 × (length d4.logs ≡ 5)) where
-  pub enabled_gives : (r : MediaState) → r ≡ enabled → WorkEnded d (device_of d5.volatile d5.persistent d5.clock d5.policy d5.logs d5.poison r)
+module _ (d : Device) (v : ValidDevice d) (d1 : Device) (e1 : LogEmptied d (log_at 0) d1 × ValidDevice d1) (d2 : Device) (e2 : LogEmptied d1 (log_at 1) d2 × ValidDevice d2) (d3 : Device)
+    (e3 : LogEmptied d2 (log_at 2) d3 × ValidDevice d3) (d4 : Device) (e4 : LogEmptied d3 (log_at 3) d4 × ValidDevice d4) (d5 : Device) (e5 : LogEmptied d4 (log_at 4) d5 × ValidDevice d5) where
+  pub enabled_gives : length d5.logs ≡ 5 → (r : MediaState) → r ≡ enabled → WorkEnded d (device_of d5.volatile d5.persistent d5.clock d5.policy d5.logs d5.poison r)
   unfolding log_at
-  enabled_gives r on =
-      let all = all_emptied d d1 d2 d3 d4 d5 e1.2 e1.0 e2.0 e3.0 e4.0 e5.0 in
+  enabled_gives many r on =
+      let all = all_emptied d d1 d2 d3 d4 d5 (counted many) e1.0 e2.0 e3.0 e4.0 e5.0 in
       record { logs = all.0; left = ap₂ (λ (x : Device) (m : MediaState). device_of x.volatile x.persistent x.clock x.policy d5.logs x.poison m) all.1 on }
+    where
+      back : (k : ℕ) (b c : Device) → LogEmptied b k c → length c.logs ≡ 5 → length b.logs ≡ 5
+      back k b c e h = sym (logs_stay k b c e) ∙ h
+
+      counted : length d5.logs ≡ 5 → length d.logs ≡ 5
+      counted h = back 0 d d1 e1.0 (back 1 d1 d2 e2.0 (back 2 d2 d3 e3.0 (back 3 d3 d4 e4.0 (back 4 d4 d5 e5.0 h))))
 
 -- where it is due; and where it is not
 module _ (d : Device) (time : ℕ) (v : ValidDevice d) where
@@ -209,7 +245,7 @@ module _ (d : Device) (opcode : ℕ) (payload : List ℕ) (time : ℕ) (reply : 
   module _ (v : ValidDevice d × (of_list opcode ≡ true)) where
     pub list_command_in_place_asks : Sized d.poison
         → (1 ≤ d.volatile + d.persistent) × (d.volatile + d.persistent ≤ most_units) × ValidSlots (unit_lines * (d.volatile + d.persistent)) d.poison.count d.poison.starts d.poison.lengths d.poison.kinds × (of_list opcode ≡ true)
-    list_command_in_place_asks sized = (v.0.some_unit, v.0.few_units, valid_slots d.poison sized v.0.poison, v.1)
+    list_command_in_place_asks long = (v.0.some_unit, v.0.few_units, valid_slots d.poison long v.0.poison, v.1)
 
     pub list_command_in_place_gives : (r : ListLeft) (starts lengths kinds after : List ℕ)
         → ListAnswered d.media.disabled d.volatile d.persistent d.clock d.poison opcode payload time (record { code = r.code; length = r.length; list = list_of starts lengths kinds r.count r.overflow r.since }) reply after
@@ -217,30 +253,33 @@ module _ (d : Device) (opcode : ℕ) (payload : List ℕ) (time : ℕ) (reply : 
     list_command_in_place_gives r starts lengths kinds after e area sized = command_vector (sym numbered_none) (list_parts_answered d v.0 area sized e)
 
   -- Inject Poison: the list's arrays and log 0
-  module _ (v : ValidDevice d × (of_injection opcode ≡ true)) (k : ℕ) (named : (k ≡ log_at 0) × (k < 5)) where
-    pub inject_in_place_asks : Sized d.poison
-        → (1 ≤ d.volatile + d.persistent) × (d.volatile + d.persistent ≤ most_units) × ValidSlots (unit_lines * (d.volatile + d.persistent)) d.poison.count d.poison.starts d.poison.lengths d.poison.kinds × ValidLog (get_or d.logs k blank)
-    inject_in_place_asks sized = (v.0.some_unit, v.0.few_units, valid_slots d.poison sized v.0.poison, v.0.logs.each k named.1)
+  module _ (v : ValidDevice d × (of_injection opcode ≡ true)) where
+    module _ (long : Sized d.poison) (k : ℕ) (named : (k ≡ log_at 0) × (k < 5)) where
+      pub inject_in_place_asks : (1 ≤ d.volatile + d.persistent) × (d.volatile + d.persistent ≤ most_units) × ValidSlots (unit_lines * (d.volatile + d.persistent)) d.poison.count d.poison.starts d.poison.lengths d.poison.kinds × ValidLog (get_or d.logs k blank)
+      inject_in_place_asks = (v.0.some_unit, v.0.few_units, valid_slots d.poison long v.0.poison, v.0.logs.each k named.1)
 
-    pub inject_in_place_gives : length d.logs ≡ 5 → (r : InjectLeft) (starts lengths kinds after : List ℕ)
-        → ((overflow : Bool) (since : ℕ) → InjectAnswered d.media.disabled d.volatile d.persistent d.clock d.policy (get_or d.logs k blank) (list_of d.poison.starts d.poison.lengths d.poison.kinds d.poison.count overflow since) payload time (record { code = r.code; vector = r.vector; list = list_of starts lengths kinds r.count overflow since; log = r.log }) reply after)
-        → Gives r.code r.vector 0 (device_of d.volatile d.persistent d.clock d.policy (set d.logs k r.log) (list_of starts lengths kinds r.count d.poison.overflow d.poison.overflow_time) d.media) after
-    unfolding log_at
-    inject_in_place_gives five r starts lengths kinds after e =
-        let at : (j : ℕ) → j ≡ 0
-        → InjectAnswered d.media.disabled d.volatile d.persistent d.clock d.policy (get_or d.logs j blank) d.poison payload time (record { code = r.code; vector = r.vector; list = list_of starts lengths kinds r.count d.poison.overflow d.poison.overflow_time; log = r.log }) reply after
-        → Gives r.code r.vector 0 (device_of d.volatile d.persistent d.clock d.policy (set d.logs j r.log) (list_of starts lengths kinds r.count d.poison.overflow d.poison.overflow_time) d.media) after
-        = λ j z. rw z (λ a area sized. inject_parts_answered d v.0 opcode area sized five v.1 a) in
-        at k named.0 (e d.poison.overflow d.poison.overflow_time)
+    module _ (many : length d.logs ≡ 5) (k : ℕ) (named : (k ≡ log_at 0) × (k < 5)) where
+      pub inject_in_place_gives : (r : InjectLeft) (starts lengths kinds after : List ℕ)
+          → ((overflow : Bool) (since : ℕ) → InjectAnswered d.media.disabled d.volatile d.persistent d.clock d.policy (get_or d.logs k blank) (list_of d.poison.starts d.poison.lengths d.poison.kinds d.poison.count overflow since) payload time (record { code = r.code; vector = r.vector; list = list_of starts lengths kinds r.count overflow since; log = r.log }) reply after)
+          → Gives r.code r.vector 0 (device_of d.volatile d.persistent d.clock d.policy (set d.logs k r.log) (list_of starts lengths kinds r.count d.poison.overflow d.poison.overflow_time) d.media) after
+      unfolding log_at
+      inject_in_place_gives r starts lengths kinds after e =
+          let at : (j : ℕ) → j ≡ 0
+          → InjectAnswered d.media.disabled d.volatile d.persistent d.clock d.policy (get_or d.logs j blank) d.poison payload time (record { code = r.code; vector = r.vector; list = list_of starts lengths kinds r.count d.poison.overflow d.poison.overflow_time; log = r.log }) reply after
+          → Gives r.code r.vector 0 (device_of d.volatile d.persistent d.clock d.policy (set d.logs j r.log) (list_of starts lengths kinds r.count d.poison.overflow d.poison.overflow_time) d.media) after
+          = λ j z. rw z (λ a area sized. inject_parts_answered d v.0 opcode area sized many v.1 a) in
+          at k named.0 (e d.poison.overflow d.poison.overflow_time)
 
   -- one log
-  module _ (v : ValidDevice d × (of_log opcode ≡ true)) (k : ℕ) (named : (k ≡ log_named payload) × (k < 5)) where
-    pub log_command_asks : ValidLog (get_or d.logs k blank) × (of_log opcode ≡ true)
-    log_command_asks = (v.0.logs.each k named.1, v.1)
+  module _ (v : ValidDevice d × (of_log opcode ≡ true)) where
+    module _ (k : ℕ) (named : (k ≡ log_named payload) × (k < 5)) where
+      pub log_command_asks : ValidLog (get_or d.logs k blank) × (of_log opcode ≡ true)
+      log_command_asks = (v.0.logs.each k named.1, v.1)
 
-    pub log_command_gives : length d.logs ≡ 5 → (r : LogParts) (after : List ℕ) → LogAnswered (get_or d.logs k blank) opcode payload r reply after
-        → Gives r.code 0 r.length (with_log d k r.log) after
-    log_command_gives five r after e area sized = command_vector (sym numbered_none) (log_parts_answered d v.0 five k area sized time named.0 e)
+    module _ (many : length d.logs ≡ 5) (k : ℕ) (named : (k ≡ log_named payload) × (k < 5)) where
+      pub log_command_gives : (r : LogParts) (after : List ℕ) → LogAnswered (get_or d.logs k blank) opcode payload r reply after
+          → Gives r.code 0 r.length (with_log d k r.log) after
+      log_command_gives r after e area sized = command_vector (sym numbered_none) (log_parts_answered d v.0 many k area sized time named.0 e)
 
   -- the settings
   module _ (v : ValidDevice d × (of_area opcode label_size ≡ false) × (of_list opcode ≡ false) × (of_injection opcode ≡ false) × (of_log opcode ≡ false)) where
@@ -253,18 +292,20 @@ module _ (d : Device) (opcode : ℕ) (payload : List ℕ) (time : ℕ) (reply : 
     settings_command_gives r after e area sized = command_vector (sym numbered_none) (settings_parts_answered d v.0 area sized e)
 
 -- ---- the event report, on the device e that it finds
-module _ (d : Device) (time log : ℕ) (event : List ℕ) (v : ValidDevice d) (e : Device) (ends : Ends d time e) (k : ℕ) (named : (k ≡ log_at log) × (k < 5)) where
-  pub event_report_in_asks : ValidLog (get_or e.logs k blank)
-  event_report_in_asks = ends.valid.logs.each k named.1
+module _ (d : Device) (time log : ℕ) (event : List ℕ) (v : ValidDevice d) (e : Device) (ends : Ends d time e) where
+  module _ (k : ℕ) (named : (k ≡ log_at log) × (k < 5)) where
+    pub event_report_in_asks : ValidLog (get_or e.logs k blank)
+    event_report_in_asks = ends.valid.logs.each k named.1
 
-  pub event_report_in_gives : length e.logs ≡ 5 → (r : EventParts) → EventIn (get_or e.logs k blank) e.clock e.policy time log event r
-      → AfterEnding d time (λ (x : Device). EventDone (event_report (state_of d) time log event) x (record { code = r.code; stored = r.stored; vector = numbered r.vector; device = with_log e k r.log }))
-  event_report_in_gives five r a = after_event ends log event (event_parts_done e ends.valid five k named.0 a)
+  module _ (many : length e.logs ≡ 5) (k : ℕ) (named : (k ≡ log_at log) × (k < 5)) where
+    pub event_report_in_gives : (r : EventParts) → EventIn (get_or e.logs k blank) e.clock e.policy time log event r
+        → AfterEnding d time (λ (x : Device). EventDone (event_report (state_of d) time log event) x (record { code = r.code; stored = r.stored; vector = numbered r.vector; device = with_log e k r.log }))
+    event_report_in_gives r a = after_event ends log event (event_parts_done e ends.valid many k named.0 a)
 
 -- ---- the media report, likewise
 module _ (d : Device) (time address n kind : ℕ) (v : ValidDevice d) (e : Device) (ends : Ends d time e) where
   pub media_report_in_place_asks : Sized e.poison → (1 ≤ e.volatile + e.persistent) × (e.volatile + e.persistent ≤ most_units) × ValidSlots (unit_lines * (e.volatile + e.persistent)) e.poison.count e.poison.starts e.poison.lengths e.poison.kinds
-  media_report_in_place_asks sized = (ends.valid.some_unit, ends.valid.few_units, valid_slots e.poison sized ends.valid.poison)
+  media_report_in_place_asks long = (ends.valid.some_unit, ends.valid.few_units, valid_slots e.poison long ends.valid.poison)
 
   pub media_report_in_place_gives : (r : MediaLeft) (starts lengths kinds : List ℕ)
       → MediaIn e.volatile e.persistent e.clock e.poison time address n kind (record { code = r.code; stored = r.stored; dropped = r.dropped; list = list_of starts lengths kinds r.count r.overflow r.since })

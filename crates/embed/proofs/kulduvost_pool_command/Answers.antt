@@ -7,7 +7,7 @@ use Rattle.embed.proofs.kulduvost_pool_command.Goals as goal
 pub pool_command_in-a-requires : goal.pool_command_in-a-requires
 pool_command_in-a-requires c =
     let sized : Sized c.args.device.now.poison = record { starts = search rules; lengths = search rules; kinds = search rules } in
-    pool_command_in_asks c.args.device.now c.args.opcode c.args.payload.now c.args.time c.args.reply.now c.requires c.log_named-k.result c.log_named-k.ensures sized
+    pool_command_in_asks c.args.device.now c.args.opcode c.args.payload.now c.args.time c.args.reply.now c.requires sized c.log_named-k.result c.log_named-k.ensures
 
 pub returns : goal.returns
 returns c =

@@ -7,8 +7,8 @@ use Rattle.embed.proofs.run_injection.Goals as goal
 pub inject_in_place-a-requires : goal.inject_in_place-a-requires
 inject_in_place-a-requires c =
     let sized : Sized c.args.device.now.poison = record { starts = search rules; lengths = search rules; kinds = search rules } in
-    inject_in_place_asks c.args.device.now c.args.opcode c.args.payload.now c.args.time c.args.reply.now c.requires c.log_at-k.result c.log_at-k.ensures sized
+    inject_in_place_asks c.args.device.now c.args.opcode c.args.payload.now c.args.time c.args.reply.now c.requires sized c.log_at-k.result c.log_at-k.ensures
 
 pub returns : goal.returns
 returns c =
-    inject_in_place_gives c.args.device.now c.args.opcode c.args.payload.now c.args.time c.args.reply.now c.requires c.log_at-k.result c.log_at-k.ensures (search rules) c.inject_in_place-a.result c.inject_in_place-a.new.starts c.inject_in_place-a.new.lengths c.inject_in_place-a.new.kinds c.inject_in_place-a.new.reply c.inject_in_place-a.ensures
+    inject_in_place_gives c.args.device.now c.args.opcode c.args.payload.now c.args.time c.args.reply.now c.requires (search rules) c.log_at-k.result c.log_at-k.ensures c.inject_in_place-a.result c.inject_in_place-a.new.starts c.inject_in_place-a.new.lengths c.inject_in_place-a.new.kinds c.inject_in_place-a.new.reply c.inject_in_place-a.ensures

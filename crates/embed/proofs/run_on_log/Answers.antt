@@ -5,4 +5,4 @@ use Rattle.embed.proofs.run_on_log.Goals as goal
 
 pub returns : goal.returns
 returns c =
-    log_command_gives c.args.device.now c.args.opcode c.args.payload.now c.args.time c.args.reply.now c.requires c.log_named-k.result c.log_named-k.ensures (search rules) c.log_command-a.result c.log_command-a.new.reply c.log_command-a.ensures
+    log_command_gives c.args.device.now c.args.opcode c.args.payload.now c.args.time c.args.reply.now c.requires (search rules) c.log_named-k.result c.log_named-k.ensures c.log_command-a.result c.log_command-a.new.reply c.log_command-a.ensures
