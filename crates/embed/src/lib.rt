@@ -1,7 +1,7 @@
 // The device behind a pointer, for Rust to call, and for C through crate `embed_c`, which exports these functions under their names. A function here copies nothing that it neither changes nor hands on: it takes the parts of
 // the device that a call sees, calls the mailbox's function over those parts, and stores the parts that changed. Every call that reads or changes
-// the arrays of the poison list lends them where they lie (document 02, W-203). Event status hands on the device by value and make stores one: there the compiler takes the
-// copy away, which is measured and not proved.
+// the arrays of the poison list lends them where they lie (document 02, W-203). Event status hands on the device by value and make stores one: what the compiler
+// leaves of these copies is measured and not proved.
 // What a caller owes, and nothing here checks: the device was made by `kulduvost_make` and changed by these functions alone, nothing else uses it during a call, the lengths
 // that come with pointers are true, and no two of the areas handed over overlap.
 #![tactic(auto)]

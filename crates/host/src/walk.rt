@@ -99,7 +99,7 @@ fn write(
 // Walks the poison list over some lines from an address on: writes the records to the room, or refuses and leaves the room as it was. The device is asked for
 // the whole range first: where it refuses, its number is the walk's. How many records there are is found before the first is written, by the same recursion.
 // A room of 5,120 bytes is enough on every device (`walk_enough` of proofs/WalkCounts.antt). The stack: a level of the recursion takes some 7.8 KB, since the device
-// is handed on by value (the prover covers no reference to a struct); there are at most 27 levels (`walk_deep`), with the request some 224 KB, by the frames of the compiled code.
+// is handed on by value; there are at most 27 levels (`walk_deep`), with the request some 224 KB, by the frames of the compiled code.
 pub fn walk(device: Device, address: u64, lines: u64, room: &mut [u8]) -> Done
     requires { ValidDevice device }
     ensures { Writes (walk_answer device address lines (length room.old)) result room.old room.new }
