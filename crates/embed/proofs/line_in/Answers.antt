@@ -23,11 +23,11 @@ pub returns-then-disabled : goal.returns-then-disabled
 returns-then-disabled c =
     let of : DeviceState = seen c.args.volatile c.args.persistent c.args.disabled
     (list_in c.args.count c.args.starts.now c.args.lengths.now c.args.kinds.now c.args.overflow) in
-    disabled of _ _ c.check_address-code.ensures c.if-code-ne-SUCCESS.false c.if-disabled.true
+    disabled of _ _ c.check_address-code.ensures (omega arith) c.if-disabled.true
 
 pub overflow_cast-line : goal.overflow_cast-line
 overflow_cast-line c =
-    let h = line_inside _ _ (sym c.check_address-code.ensures ∙ c.if-code-ne-SUCCESS.false) in
+    let h = line_inside _ _ (sym c.check_address-code.ensures ∙ (omega arith)) in
     let k = c.requires.0 in
     record { fits = omega (arith, h, k) }
 
@@ -35,19 +35,19 @@ pub returns-in-Clean : goal.returns-in-Clean
 returns-in-Clean c =
     let of : DeviceState = seen c.args.volatile c.args.persistent c.args.disabled
     (list_in c.args.count c.args.starts.now c.args.lengths.now c.args.kinds.now c.args.overflow) in
-    let case : (t : LineTest) → c.test_in-answer.result ≡ t → LineTold (line_test of c.args.address) (record { code = c.check_address-code.result; answer = status_number (status_of t); kind = status_type (status_of t) }) = λ t is. told of _ _ c.check_address-code.ensures c.if-code-ne-SUCCESS.false c.if-disabled.false _ t c.test_in-answer.ensures is in
+    let case : (t : LineTest) → c.test_in-answer.result ≡ t → LineTold (line_test of c.args.address) (record { code = c.check_address-code.result; answer = status_number (status_of t); kind = status_type (status_of t) }) = λ t is. told of _ _ c.check_address-code.ensures (omega arith) c.if-disabled.false _ t c.test_in-answer.ensures is in
     case Clean (search rules)
 
 pub returns-in-Damaged : goal.returns-in-Damaged
 returns-in-Damaged c =
     let of : DeviceState = seen c.args.volatile c.args.persistent c.args.disabled
     (list_in c.args.count c.args.starts.now c.args.lengths.now c.args.kinds.now c.args.overflow) in
-    let case : (t : LineTest) → c.test_in-answer.result ≡ t → LineTold (line_test of c.args.address) (record { code = c.check_address-code.result; answer = status_number (status_of t); kind = status_type (status_of t) }) = λ t is. told of _ _ c.check_address-code.ensures c.if-code-ne-SUCCESS.false c.if-disabled.false _ t c.test_in-answer.ensures is in
+    let case : (t : LineTest) → c.test_in-answer.result ≡ t → LineTold (line_test of c.args.address) (record { code = c.check_address-code.result; answer = status_number (status_of t); kind = status_type (status_of t) }) = λ t is. told of _ _ c.check_address-code.ensures (omega arith) c.if-disabled.false _ t c.test_in-answer.ensures is in
     case (Damaged _) (search rules)
 
 pub returns-in-Unknown : goal.returns-in-Unknown
 returns-in-Unknown c =
     let of : DeviceState = seen c.args.volatile c.args.persistent c.args.disabled
     (list_in c.args.count c.args.starts.now c.args.lengths.now c.args.kinds.now c.args.overflow) in
-    let case : (t : LineTest) → c.test_in-answer.result ≡ t → LineTold (line_test of c.args.address) (record { code = c.check_address-code.result; answer = status_number (status_of t); kind = status_type (status_of t) }) = λ t is. told of _ _ c.check_address-code.ensures c.if-code-ne-SUCCESS.false c.if-disabled.false _ t c.test_in-answer.ensures is in
+    let case : (t : LineTest) → c.test_in-answer.result ≡ t → LineTold (line_test of c.args.address) (record { code = c.check_address-code.result; answer = status_number (status_of t); kind = status_type (status_of t) }) = λ t is. told of _ _ c.check_address-code.ensures (omega arith) c.if-disabled.false _ t c.test_in-answer.ensures is in
     case Unknown (search rules)
