@@ -1,29 +1,44 @@
 -- The lines put together from their pieces, and how long a line can be. Assumes nothing.
-use mathlib.Core.Path.{◌≡◌, refl, sym, ap, ◌∙◌}
+use mathlib.Core.Path.{◌≡◌, sym, ap, ◌∙◌}
 use mathlib.Core.Bool.{Bool, cond}
-use mathlib.Core.List.{List, [], ◌∷◌, ◌++◌, append-nil}
-use Prim.Native.Nat.{ℕ, ◌+◌, ◌≤◌, ◌<◌}
+use mathlib.Core.List.{List, [], ◌∷◌, ◌++◌, append-nil, append_assoc}
+use Prim.Native.Nat.{ℕ, ◌+◌, ◌≤◌}
 use native.Mathlib.Omega.{arith}
-use lib.ListN.{length, take, drop, get_or, length-append, length-take}
+use lib.ListN.{length, take, length-append}
+use lib.Seq.{take_all}
 use borrow.Author.Tests.{eq-eqb, ne_eqb}
 use Rattle.protocol.specs.Text.{hex, bytes_column, columns, line_end, numbers_line}
 use Rattle.protocol.specs.Records.{CM}
 use Rattle.protocol.specs.Relations.{Puts, PutsLine}
-use Rattle.protocol.proofs.Laws.{puts_then, puts_as, puts_line_as, some_bytes, fits_room, length_columns, length_hex}
+use Rattle.protocol.proofs.Laws.{puts_then, puts_as, some_bytes, fits_room, length_columns, length_hex}
 use Rattle.bench.specs.Lines.{command_line, told_line}
 
 -- EV, MD and LT: the code alone, and all numbers
-pub told_refused : (mark numbers : List ℕ) {used e : ℕ} {before after : List ℕ} → PutsLine used (numbers_line mark (take 1 numbers)) before after e → (get_or numbers 0 0 ≡ 0 → ⊥)
-    → PutsLine used (told_line mark (get_or numbers 0 0) (drop 1 numbers)) before after e
-unfolding told_line
-told_refused mark [] put refusal = absurd (refusal refl)
-told_refused mark (code ∷ numbers) put refusal = puts_line_as put (ap (λ (t : Bool). numbers_line mark (code ∷ cond t numbers [])) (sym (ne_eqb code 0 refusal)))
+module _ (first second code : ℕ) (numbers : List ℕ) {used m : ℕ} {d₀ d₁ : List ℕ} (start : Puts used ((first ∷ second ∷ []) ++ columns (code ∷ [])) d₀ d₁ m)
+    (room : used + 4200 ≤ length d₀) where
+  -- where the code ends
+  pub code_end : m ≤ used + 23
+  code_end = omega (arith, start.end, length_columns (code ∷ []))
 
-pub told_all : (mark numbers : List ℕ) {used e : ℕ} {before after : List ℕ} → PutsLine used (numbers_line mark numbers) before after e → 0 < length numbers → get_or numbers 0 0 ≡ 0
-    → PutsLine used (told_line mark (get_or numbers 0 0) (drop 1 numbers)) before after e
-unfolding told_line
-told_all mark [] put some success = absurd (omega arith)
-told_all mark (code ∷ numbers) put some success = puts_line_as put (ap (λ (t : Bool). numbers_line mark (code ∷ cond t numbers [])) (sym (eq-eqb code 0 success)))
+  pub told_refused : {e : ℕ} {d₂ : List ℕ} → Puts m line_end d₁ d₂ e → (code ≡ 0 → ⊥) → PutsLine used (told_line (first ∷ second ∷ []) code numbers) d₀ d₂ e
+  unfolding told_line
+  told_refused last refusal =
+      record {
+        puts = puts_as (puts_then start last (omega (arith, code_end))) (ap (λ (t : Bool). numbers_line (first ∷ second ∷ []) (code ∷ cond t numbers [])) (sym (ne_eqb code 0 refusal)));
+        room = omega (arith, last.end, code_end);
+      }
+
+  pub told_all : {k e : ℕ} {d₂ d₃ : List ℕ} → Puts m (columns numbers) d₁ d₂ k → Puts k line_end d₂ d₃ e → length numbers ≤ 2 → code ≡ 0
+      → PutsLine used (told_line (first ∷ second ∷ []) code numbers) d₀ d₃ e
+  unfolding told_line columns
+  told_all each last few success =
+      let all : ((first ∷ second ∷ []) ++ columns (code ∷ [])) ++ columns numbers ≡ (first ∷ second ∷ []) ++ columns (code ∷ numbers) = simp append_assoc in
+      record {
+        puts =
+            puts_as (puts_then (puts_then start each (omega (arith, code_end, length_columns numbers))) last (omega (arith, each.end, length_columns numbers, code_end)))
+            (ap (λ (l : List ℕ). l ++ line_end) all ∙ ap (λ (t : Bool). numbers_line (first ∷ second ∷ []) (code ∷ cond t numbers [])) (sym (eq-eqb code 0 success)));
+        room = omega (arith, last.end, each.end, length_columns numbers, code_end);
+      }
 
 -- no line is longer than 4,200 bytes
 pub length_command_line : (code : ℕ) (reply : List ℕ) → length reply ≤ 2048 → length (command_line code reply) ≤ 4200
@@ -31,34 +46,33 @@ unfolding command_line
 length_command_line code [] few = simp length-append (omega (arith, length_columns (code ∷ 0 ∷ [])))
 length_command_line code (b ∷ bs) few = simp length-append (omega (arith, length_columns (code ∷ length (b ∷ bs) ∷ []), length_hex (b ∷ bs)))
 
-module _ (code n : ℕ) {used m : ℕ} {d₀ d₁ : List ℕ} (reply : List ℕ) (start : Puts used (CM ++ columns (code ∷ n ∷ [])) d₀ d₁ m) (fits : n ≤ length reply) (few : n ≤ 2048)
+module _ (code : ℕ) (reply : List ℕ) {used m : ℕ} {d₀ d₁ : List ℕ} (start : Puts used (CM ++ columns (code ∷ length reply ∷ [])) d₀ d₁ m) (few : length reply ≤ 2048)
     (room : used + 4200 ≤ length d₀) where
-  long : length (take n reply) ≡ n
-  long = rw length-take (omega arith)
-
   -- where the columns end, and where the bytes end
   pub columns_end : m ≤ used + 44
-  columns_end = omega (arith, start.end, length_columns (code ∷ n ∷ []))
+  columns_end = omega (arith, start.end, length_columns (code ∷ length reply ∷ []))
 
-  pub bytes_end : {k : ℕ} {d₂ : List ℕ} → Puts m (32 ∷ hex (take n reply)) d₁ d₂ k → k ≤ used + 4141
-  bytes_end bytes = omega (arith, bytes.end, length_hex (take n reply), long, columns_end)
+  all_bytes : {k : ℕ} {d₂ : List ℕ} → Puts m (32 ∷ hex (take (length reply) reply)) d₁ d₂ k → Puts m (32 ∷ hex reply) d₁ d₂ k
+  all_bytes bytes = puts_as bytes (ap (λ (l : List ℕ). 32 ∷ hex l) (take_all (length reply) reply (omega arith)))
 
-  pub command_empty : {e : ℕ} {d₂ : List ℕ} → Puts m line_end d₁ d₂ e → n ≡ 0 → PutsLine used (command_line code (take n reply)) d₀ d₂ e
+  pub bytes_end : {k : ℕ} {d₂ : List ℕ} → Puts m (32 ∷ hex (take (length reply) reply)) d₁ d₂ k → k ≤ used + 4141
+  bytes_end bytes = omega (arith, (all_bytes bytes).end, length_hex reply, columns_end)
+
+  pub command_empty : {e : ℕ} {d₂ : List ℕ} → Puts m line_end d₁ d₂ e → length reply ≡ 0 → PutsLine used (command_line code reply) d₀ d₂ e
   unfolding command_line
   command_empty last none =
-      fits_room 4200
-      (puts_as (puts_then start last (omega (arith, columns_end)))
-      (ap (λ (l : List ℕ). l ++ line_end) (sym (append-nil (CM ++ columns (code ∷ n ∷ []))))
-      ∙ ap (λ (k : ℕ). ((CM ++ columns (code ∷ k ∷ [])) ++ []) ++ line_end) (sym long)
-      ∙ ap (λ (l : List ℕ). ((CM ++ columns (code ∷ length (take n reply) ∷ [])) ++ bytes_column [] l) ++ line_end) (sym (ap (λ (k : ℕ). take k reply) none))))
-      (length_command_line code (take n reply) (omega (arith, long))) room
+      fits_room 4200 (puts_as (puts_then start last (omega (arith, columns_end))) (go reply none)) (length_command_line code reply few) room
+    where
+      go : (reply : List ℕ) → length reply ≡ 0
+          → (CM ++ columns (code ∷ length reply ∷ [])) ++ line_end ≡ ((CM ++ columns (code ∷ length reply ∷ [])) ++ bytes_column [] reply) ++ line_end
+      go [] none = ap (λ (l : List ℕ). l ++ line_end) (sym (append-nil (CM ++ columns (code ∷ 0 ∷ []))))
+      go (b ∷ bs) none = absurd (omega arith)
 
-  pub command_told : {k e : ℕ} {d₂ d₃ : List ℕ} → Puts m (32 ∷ hex (take n reply)) d₁ d₂ k → Puts k line_end d₂ d₃ e → (n ≡ 0 → ⊥)
-      → PutsLine used (command_line code (take n reply)) d₀ d₃ e
+  pub command_told : {k e : ℕ} {d₂ d₃ : List ℕ} → Puts m (32 ∷ hex (take (length reply) reply)) d₁ d₂ k → Puts k line_end d₂ d₃ e → (length reply ≡ 0 → ⊥)
+      → PutsLine used (command_line code reply) d₀ d₃ e
   unfolding command_line
   command_told bytes last some =
       fits_room 4200
       (puts_as (puts_then (puts_then start bytes (omega (arith, bytes.end, bytes_end bytes))) last (omega (arith, bytes_end bytes)))
-      (ap (λ (k : ℕ). ((CM ++ columns (code ∷ k ∷ [])) ++ (32 ∷ hex (take n reply))) ++ line_end) (sym long)
-      ∙ ap (λ (l : List ℕ). ((CM ++ columns (code ∷ length (take n reply) ∷ [])) ++ l) ++ line_end) (some_bytes [] n reply fits some)))
-      (length_command_line code (take n reply) (omega (arith, long))) room
+      (ap (λ (l : List ℕ). ((CM ++ columns (code ∷ length reply ∷ [])) ++ l) ++ line_end) (some_bytes [] (length reply) reply (omega arith) some ∙ ap (bytes_column []) (take_all (length reply) reply (omega arith)))))
+      (length_command_line code reply few) room

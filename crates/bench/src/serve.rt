@@ -22,12 +22,12 @@ use mailbox::device_calls::EventAnswer;
 use mailbox::line_status;
 use protocol::calls::Served;
 use protocol::formats::Format;
-use protocol::records::mark;
+use protocol::records::{CM, EV, LT, MD, mark};
 use protocol::stream::{Stream, System};
 use protocol::{calls, formats, output, stream};
 
 // The device made by NW, its return number, and the bytes of the output buffer that are not written yet.
-#[derive(Clone, Copy)]
+#[derive(Clone, Copy, Debug, PartialEq, Eq)]
 pub struct Begun {
     pub code: u16,
     pub used: usize,
@@ -66,11 +66,10 @@ fn command(
     ensures { Leaves (serve_command (kept_of device area.old) bytes.now) used result area.new out.old out.new }
 {
     let answer = call_command(device, bytes, area, reply);
-    let end = lines::put_command(out, used, answer.code, reply, answer.length);
-    let next = answer.device;
+    let used = lines::put_command(out, used, answer.code, &reply[..answer.length]);
     Served {
-        used: end,
-        device: next,
+        used,
+        device: answer.device,
     }
 }
 
@@ -80,15 +79,12 @@ fn media(device: Device, bytes: &[u8], out: &mut [u8], used: usize) -> Served
     ensures { Serves (serve_media (state_of device) bytes.now) used result out.old out.new }
 {
     let answer = calls::media(device, bytes);
-    let code = answer.code as u64;
-    let stored = answer.stored as u64;
-    let dropped = answer.dropped as u64;
-    let numbers = [code, stored, dropped];
-    let end = lines::put_told(out, used, b'M', b'D', &numbers);
-    let next = answer.device;
+    // By `as`: `u64::from` is a call, whose result each answer would have to equate with the number.
+    let numbers = [answer.stored as u64, answer.dropped as u64];
+    let used = lines::put_told(out, used, b'M', b'D', answer.code, &numbers);
     Served {
-        used: end,
-        device: next,
+        used,
+        device: answer.device,
     }
 }
 
@@ -98,12 +94,9 @@ fn line(device: Device, bytes: &[u8], out: &mut [u8], used: usize) -> usize
     ensures { PutsLine used (serve_line (state_of device) bytes.now).line out.old out.new result }
 {
     let told = calls::line(device, bytes);
-    let answer = told.answer;
-    let code = told.code as u64;
-    let number = line_status::status_number(answer);
-    let kind = line_status::status_type(answer);
-    let numbers = [code, number, kind];
-    lines::put_told(out, used, b'L', b'T', &numbers)
+    let number = line_status::status_number(told.answer);
+    let kind = line_status::status_type(told.answer);
+    lines::put_told(out, used, b'L', b'T', told.code, &[number, kind])
 }
 
 // Serves the records after the first. A proved loop has to end: it does at an offset that no input reaches.
@@ -130,32 +123,25 @@ fn serve(
             return output::stop(out, used, here.end - at, here.offset);
         }
         let mut rest = here.past(found.size);
-        let to = rest.at;
-        match mark(&input[at..to]) {
-            0x434D => { // CM
-                let served = command(device, &input[at..to], area, reply, out, used);
-                let next = served.device;
-                device = next;
+        let bytes = &input[at..rest.at];
+        match mark(bytes) {
+            CM => {
+                let served = command(device, bytes, area, reply, out, used);
+                device = served.device;
                 rest.used = served.used;
             }
-            0x4556 => { // EV
-                let answer = call_event(device, &input[at..to]);
-                let next = answer.device;
-                device = next;
+            EV => {
+                let answer = call_event(device, bytes);
+                device = answer.device;
                 rest.used = lines::put_event(out, used, answer.code, answer.stored);
             }
-            0x4D44 => { // MD
-                let served = media(device, &input[at..to], out, used);
-                let next = served.device;
-                device = next;
+            MD => {
+                let served = media(device, bytes, out, used);
+                device = served.device;
                 rest.used = served.used;
             }
-            0x4C54 => { // LT
-                rest.used = line(device, &input[at..to], out, used);
-            }
-            _ => {
-                rest.used = used;
-            }
+            LT => rest.used = line(device, bytes, out, used),
+            _ => unreachable!(),
         }
         s = rest;
     }
@@ -168,12 +154,13 @@ fn begin(bytes: &[u8], out: &mut [u8]) -> Begun
     ensures { Begins (first_record bytes.now) (new_call bytes.now).code result out.old out.new }
 {
     let made = calls::make(bytes);
-    let code = made.code;
-    let number = code as u64;
-    let numbers = [number];
-    let used = output::put_numbers(out, 0, b'N', b'W', &numbers);
-    let device = made.device;
-    Begun { code, used, device }
+    // By `as`: `u64::from` is a call, whose result each answer would have to equate with the number.
+    let used = output::put_numbers(out, 0, b'N', b'W', &[made.code as u64]);
+    Begun {
+        code: made.code,
+        used,
+        device: made.device,
+    }
 }
 
 // Makes the device by the first record and serves the others: how many bytes of the output buffer are not written yet. The label area starts as zeros.
@@ -195,12 +182,10 @@ pub(crate) fn run(
         return output::stop(out, 0, here.end - at, here.offset);
     }
     let mut rest = here.past(found.size);
-    let to = rest.at;
-    let begun = begin(&input[at..to], out);
+    let begun = begin(&input[at..rest.at], out);
     if begun.code != 0 {
         return begun.used;
     }
-    let device = begun.device;
     rest.used = begun.used;
-    serve(device, rest, system, input, out, area, reply)
+    serve(begun.device, rest, system, input, out, area, reply)
 }

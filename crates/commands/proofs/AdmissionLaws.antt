@@ -8,7 +8,7 @@ use native.Mathlib.Decide.{ℕ_discrete}
 use lib.Dec.{leb, eqb}
 use borrow.Author.Tests.{le-leb, lt-leb, leb-true, eqb-true, ne_eqb, eq-eqb}
 use Rattle.labels.specs.Labels.{label_size}
-use Rattle.wire.specs.Returns.{started, busy, media_disabled, unsupported, unsupported_mailbox, invalid_length, small_buffer, need}
+use Rattle.wire.specs.Returns.{started, unsupported, unsupported_mailbox, invalid_length, small_buffer, need}
 use Rattle.commands.specs.Numbers.{mailbox_size}
 use Rattle.wire.proofs.Laws.{either, need_fails, need_holds, need_zero}
 use Rattle.commands.specs.declared.mailboxes.Mailbox.{Mailbox}
@@ -224,25 +224,3 @@ four_five n e = four_five_by n (eqb n 4) (eqb n 5) (eqb-true n 4) (eqb-true n 5)
 -- a buffer that has room for every reply has room for one of n bytes
 pub room_for : {n room : ℕ} → n ≤ mailbox_size → mailbox_size ≤ room → n ≤ room
 room_for h k = omega arith
-
--- ---- while media is disabled
-module _ (op : ℕ) where
-  pub disabled_sanitize : op ≡ 0x4400 → busy ≡ while_disabled op
-  unfolding while_disabled
-  disabled_sanitize e = sym (ap while_disabled e)
-
-  pub disabled_inject : op ≡ 0x4301 → media_disabled ≡ while_disabled op
-  unfolding while_disabled
-  disabled_inject e = sym (ap while_disabled e)
-
-  pub disabled_clear : op ≡ 0x4302 → media_disabled ≡ while_disabled op
-  unfolding while_disabled
-  disabled_clear e = sym (ap while_disabled e)
-
-  pub disabled_get : op ≡ 0x4102 → media_disabled ≡ while_disabled op
-  unfolding while_disabled
-  disabled_get e = sym (ap while_disabled e)
-
-  pub disabled_set : op ≡ 0x4103 → media_disabled ≡ while_disabled op
-  unfolding while_disabled
-  disabled_set e = sym (ap while_disabled e)

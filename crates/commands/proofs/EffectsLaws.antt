@@ -1,19 +1,14 @@
--- The Command Effects Log by its bytes, the cases of Get Log, and Get Supported Logs put together from its fields. Assumes nothing.
+-- The Command Effects Log by its bytes, and Get Supported Logs put together from its fields. Assumes nothing.
 use mathlib.Core.Path.{◌≡◌, refl}
-use mathlib.Core.Bool.{true, false}
 use mathlib.Core.List.{List, [], ◌∷◌}
-use Prim.Native.Nat.{ℕ, ◌+◌, ◌≤◌, ◌<◌}
+use Prim.Native.Nat.{ℕ, ◌≤◌}
 use native.Mathlib.Omega.{arith}
 use lib.ListN.{length}
-use borrow.Author.Tests.{le-leb, lt-leb}
-use Rattle.wire.specs.Wire.{le, part, same, splice}
-use Rattle.wire.specs.Returns.{invalid_input, invalid_log}
-use Rattle.commands.specs.Numbers.{mailbox_size}
-use Rattle.settings.specs.Reply.{replied, no_reply}
+use Rattle.wire.specs.Wire.{le, part, splice}
 use Rattle.commands.specs.declared.mailboxes.Mailbox.{Mailbox}
 use Rattle.commands.specs.declared.mailboxes.Mailbox.TheVariants.{First, Pool}
 use Rattle.commands.specs.Commands.{commands, rows_of}
-use Rattle.commands.specs.EffectsLog.{effects_log, effects_size, effects_log_id, get_supported_logs, log_offset, log_length, part_of_log}
+use Rattle.commands.specs.EffectsLog.{effects_log, effects_size, effects_log_id, get_supported_logs}
 use Rattle.settings.proofs.Laws.{field_more}
 
 -- the bytes of the source's tables
@@ -41,26 +36,6 @@ pool_effects_are = refl
 pub effects_sizes : (effects_size First ≡ 60) × (effects_size Pool ≡ 28)
 unfolding effects_log commands rows_of le
 effects_sizes = (refl, refl)
-
--- ---- the cases of Get Log
-module _ (log p : List ℕ) where
-  pub log_other : same (part 0 16 p) effects_log_id ≡ false → part_of_log log p ≡ no_reply invalid_log
-  unfolding part_of_log
-  log_other i = simp i
-
-  module _ (i : same (part 0 16 p) effects_log_id ≡ true) where
-    pub log_long : mailbox_size < log_length p → part_of_log log p ≡ no_reply invalid_input
-    unfolding part_of_log
-    log_long l = simp (i, lt-leb _ _ l)
-
-    pub log_past : log_length p ≤ mailbox_size → length log < log_offset p + log_length p → part_of_log log p ≡ no_reply invalid_input
-    unfolding part_of_log
-    log_past l m = simp (i, le-leb _ _ l, lt-leb _ _ m)
-
-    pub log_part : log_length p ≤ mailbox_size → log_offset p + log_length p ≤ length log
-        → part_of_log log p ≡ replied (part (log_offset p) (log_length p) log)
-    unfolding part_of_log
-    log_part l m = simp (i, le-leb _ _ l, le-leb _ _ m)
 
 -- ---- Get Supported Logs
 pub supported_written : (m : Mailbox) (size : ℕ) (xs : List ℕ) → size ≡ effects_size m → 28 ≤ length xs

@@ -1,5 +1,5 @@
 // The checks before a command's own (document 01, "Return numbers", "Order for a command"; document 02, W-206, and W-207: which commands are refused while media is disabled), and which of two checks decides.
-ghost use Rattle.std.specs.Prelude.{◌≡◌, ◌||◌, eqb, leb};
+ghost use Rattle.std.specs.Prelude.{◌≡◌, eqb};
 ghost use Rattle.wire.specs.Returns.{unsupported_mailbox, invalid_length, small_buffer, need};
 ghost use Rattle.labels.specs.Labels.{label_size};
 ghost use Rattle.commands.specs.Commands.{is_first, checked, while_disabled, blocked};
@@ -30,6 +30,7 @@ pub fn check_area(size: usize) -> u16
 }
 
 // The number that a mailbox gives before a command's own checks, 0 where there is none. The first mailbox checks the label area before (`check_area`); the pool manager's is lent none.
+#[tactic(auto, unfolding(crate::specs::Commands::checked, crate::specs::Commands::commands, crate::specs::Commands::rows_of))]
 pub fn admitted(mailbox: Mailbox, opcode: u16, length: usize, room: usize) -> u16
     ensures { result ≡ checked mailbox opcode length room }
 {
@@ -40,21 +41,21 @@ pub fn admitted(mailbox: Mailbox, opcode: u16, length: usize, room: usize) -> u1
         return returns::INVALID_LENGTH;
     }
     match opcode {
-        0x0100 => exactly(length, 1),
-        0x0101 => first_only(mailbox, at_least(length, 6)),
-        0x0102 => exactly(length, 0),
-        0x0103 => first_only(mailbox, four_or_five(length)),
-        0x0300 => exactly(length, 0),
-        0x0301 => first_only(mailbox, exactly(length, 8)),
-        0x0400 => exactly(length, 0),
-        0x0401 => exactly(length, 24),
-        0x4000 => exactly(length, 0),
-        0x4102 => first_only(mailbox, exactly(length, 8)),
-        0x4103 => first_only(mailbox, at_least(length, 8)),
-        0x4300 => exactly(length, 16),
-        0x4301 => first_only(mailbox, exactly(length, 8)),
-        0x4302 => first_only(mailbox, exactly(length, 72)),
-        0x4400 => first_only(mailbox, exactly(length, 0)),
+        0x0100 => length_code(length == 1),
+        0x0101 => first_only(mailbox, length_code(6 <= length)),
+        0x0102 => length_code(length == 0),
+        0x0103 => first_only(mailbox, length_code(matches!(length, 4 | 5))),
+        0x0300 => length_code(length == 0),
+        0x0301 => first_only(mailbox, length_code(length == 8)),
+        0x0400 => length_code(length == 0),
+        0x0401 => length_code(length == 24),
+        0x4000 => length_code(length == 0),
+        0x4102 => first_only(mailbox, length_code(length == 8)),
+        0x4103 => first_only(mailbox, length_code(8 <= length)),
+        0x4300 => length_code(length == 16),
+        0x4301 => first_only(mailbox, length_code(length == 8)),
+        0x4302 => first_only(mailbox, length_code(length == 72)),
+        0x4400 => first_only(mailbox, length_code(length == 0)),
         _ => returns::UNSUPPORTED,
     }
 }
@@ -69,51 +70,25 @@ fn first_only(mailbox: Mailbox, code: u16) -> u16
     }
 }
 
-// A payload of k bytes and no other.
-fn exactly(length: usize, k: usize) -> u16
-    ensures { result ≡ need (eqb length k) invalid_length 0 }
+// The number of the check of a payload's length, by whether the command takes one of that length.
+fn length_code(taken: bool) -> u16
+    ensures { result ≡ need taken invalid_length 0 }
 {
-    if length == k {
+    if taken {
         returns::SUCCESS
     } else {
         returns::INVALID_LENGTH
     }
-}
-
-// A payload of k bytes or more.
-fn at_least(length: usize, k: usize) -> u16
-    ensures { result ≡ need (leb k length) invalid_length 0 }
-{
-    if k <= length {
-        returns::SUCCESS
-    } else {
-        returns::INVALID_LENGTH
-    }
-}
-
-// A payload of four bytes or five.
-fn four_or_five(length: usize) -> u16
-    ensures { result ≡ need (eqb length 4 || eqb length 5) invalid_length 0 }
-{
-    if length == 4 {
-        return returns::SUCCESS;
-    }
-    if length == 5 {
-        return returns::SUCCESS;
-    }
-    returns::INVALID_LENGTH
 }
 
 // The number that a command gets while media is disabled, 0 where it works as ever.
+#[tactic(auto, unfolding(crate::specs::Commands::while_disabled))]
 fn while_disabled(opcode: u16) -> u16
     ensures { result ≡ while_disabled opcode }
 {
     match opcode {
         0x4400 => returns::BUSY,
-        0x4301 => returns::MEDIA_DISABLED,
-        0x4302 => returns::MEDIA_DISABLED,
-        0x4102 => returns::MEDIA_DISABLED,
-        0x4103 => returns::MEDIA_DISABLED,
+        0x4301 | 0x4302 | 0x4102 | 0x4103 => returns::MEDIA_DISABLED,
         _ => returns::SUCCESS,
     }
 }

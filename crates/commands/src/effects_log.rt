@@ -26,6 +26,7 @@ const IDENTIFIER: [u8; 16] = [
 ];
 
 // The size of the effects log of the mailbox that asks.
+#[tactic(auto, using(crate::proofs::EffectsLaws::effects_sizes))]
 fn effects_size(mailbox: Mailbox) -> u64
     ensures { result ≡ effects_size mailbox }
 {
@@ -52,6 +53,7 @@ pub fn get_supported_logs(mailbox: Mailbox, reply: &mut [u8]) -> Done
 }
 
 // Get Log, of the effects log of the mailbox that asks.
+#[tactic(auto, using(crate::proofs::EffectsLaws::effects_are, crate::proofs::EffectsLaws::pool_effects_are))]
 pub fn get_log(mailbox: Mailbox, payload: &[u8], reply: &mut [u8]) -> Done
     requires { (2048 ≤ length reply.old) × (length payload.now ≡ 24) }
     ensures { Replied (get_log mailbox payload.now) result reply.old reply.new }
@@ -63,6 +65,7 @@ pub fn get_log(mailbox: Mailbox, payload: &[u8], reply: &mut [u8]) -> Done
 }
 
 // The same of a log of any bytes. The offset and the length have 4 bytes each, so that their sum is one of whole numbers in 64 bits.
+#[tactic(auto, using(wire::proofs::Laws::length_part, std::proofs::lemmas::Grind::common_steps), unfolding(crate::specs::EffectsLog::part_of_log, crate::specs::EffectsLog::effects_log_id, wire::specs::Wire::splice))]
 fn part_of_log(log: &[u8], payload: &[u8], reply: &mut [u8]) -> Done
     requires { (2048 ≤ length reply.old) × (length payload.now ≡ 24) }
     ensures { Replied (part_of_log log.now payload.now) result reply.old reply.new }
@@ -75,14 +78,7 @@ fn part_of_log(log: &[u8], payload: &[u8], reply: &mut [u8]) -> Done
     }
     let offset = wire::get(payload, 16, 4);
     let size = wire::get(payload, 20, 4);
-    if 2048 < size {
-        return Done {
-            code: returns::INVALID_INPUT,
-            length: 0,
-        };
-    }
-    let all = log.len() as u64;
-    if all < offset + size {
+    if 2048 < size || (log.len() as u64) < offset + size {
         return Done {
             code: returns::INVALID_INPUT,
             length: 0,

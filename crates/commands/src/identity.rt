@@ -16,8 +16,8 @@ pub fn identify(volatile: u16, persistent: u16, reply: &mut [u8]) -> Done
     requires { 69 ≤ length reply.old }
     ensures { Replied (identify volatile persistent) result reply.old reply.new }
 {
-    let v = volatile as u64;
-    let p = persistent as u64;
+    let v = u64::from(volatile);
+    let p = u64::from(persistent);
     wire::copy(b"BWFW VERSION 0\0\0", 0, 16, reply, 0);
     wire::put(reply, 16, 8, v + p);
     wire::put(reply, 24, 8, v);

@@ -3,5 +3,6 @@ pub mod Steps
 pub mod Indexed
 pub mod Lending
 pub mod Parts
+pub mod LentArrays
 pub mod LineLaws
 pub mod Header

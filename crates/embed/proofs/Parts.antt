@@ -8,11 +8,10 @@ use native.Mathlib.Omega.{arith}
 use lib.ListN.{length, length-set, get_or, set}
 use denote.Laws.{Is}
 use denote.Struct.Laws as LL
-use Rattle.poison.specs.State.{capacity, list_of, ValidRuns, ValidSlots, ValidList, total_in}
-use Rattle.poison.specs.LineTest.{list_in}
+use Rattle.poison.specs.State.{capacity, ValidList, ValidShapes}
 use Rattle.poison.specs.contracts.list.PoisonList as PoisonListT
 use Rattle.poison.proofs.list.PoisonList.TheLaws as PoisonListL
-use Rattle.poison.proofs.Laws.{Sized, valid_runs, valid_slots, total_is, valid_more}
+use Rattle.poison.proofs.Laws.{Sized, valid_shapes, valid_more}
 use Rattle.events.specs.Log.{ValidLog, blank}
 use Rattle.events.specs.Emptied.{Empties, EmptiesAll}
 use Rattle.events.specs.declared.log.Log.{Log}
@@ -20,24 +19,17 @@ use Rattle.events.proofs.Laws.{valid_set, set_five}
 use Rattle.events.specs.contracts.log.Log as LogT
 use Rattle.events.proofs.log.Log.TheLaws as LogL
 use Rattle.mailbox.specs.declared.device.Device.{Device}
-use Rattle.mailbox.specs.declared.by_parts.AreaParts.{AreaParts}
-use Rattle.mailbox.specs.declared.by_parts.ListLeft.{ListLeft}
-use Rattle.mailbox.specs.declared.by_parts.InjectLeft.{InjectLeft}
-use Rattle.mailbox.specs.declared.by_parts.LogParts.{LogParts}
-use Rattle.mailbox.specs.declared.by_parts.SettingsParts.{SettingsParts}
-use Rattle.mailbox.specs.declared.by_parts.EventParts.{EventParts}
-use Rattle.mailbox.specs.declared.by_parts.MediaLeft.{MediaLeft}
 use Rattle.commands.specs.Numbers.{unit_lines, most_units}
-use Rattle.mailbox.specs.State.{DeviceState, ValidDevice, state_of}
+use Rattle.mailbox.specs.State.{ValidDevice, state_of}
 use Rattle.settings.specs.Vector.{numbered}
 use Rattle.mailbox.specs.Ending.{Ends, AfterEnding}
 use Rattle.mailbox.specs.Mailbox.{answer, outcome, area_after}
-use Rattle.mailbox.specs.DeviceCalls.{event_report, media_report, line_test, damage_total}
+use Rattle.mailbox.specs.DeviceCalls.{event_report, media_report}
 use Rattle.mailbox.specs.Pool.{pool_answer}
 use Rattle.settings.specs.Relations.{Replied}
 use Rattle.wire.specs.declared.done.Done as Wire
 use Rattle.mailbox.specs.Relations.{Answered, EventDone, MediaDone}
-use Rattle.mailbox.specs.ByParts.{AreaAnswered, of_area, of_list, of_injection, of_log, log_at, log_named, device_of, with_log, ListAnswered, InjectAnswered, LogAnswered, SettingsAnswered, PoolIn, EventIn, MediaIn}
+use Rattle.mailbox.specs.ByParts.{AreaParts, ListParts, InjectParts, LogParts, SettingsParts, EventParts, MediaParts, AreaAnswered, of_area, of_list, of_injection, of_log, log_at, log_named, device_of, with_log, ListAnswered, InjectAnswered, LogAnswered, SettingsAnswered, PoolIn, EventIn, MediaIn}
 use Rattle.settings.specs.Media.{enabled, due}
 use Rattle.settings.specs.declared.media.MediaState.{MediaState}
 use Rattle.mailbox.proofs.Laws.{ends_none, ends_due, after_command, after_event, after_media, not_area, not_area_sized, other_leaves, numbered_none, command_vector, list_parts_answered, inject_parts_answered, log_parts_answered, settings_parts_answered, pool_parts_answered, event_parts_done, media_parts_done}
@@ -45,8 +37,7 @@ use Rattle.mailbox.specs.contracts.device.Device as DeviceT
 use Rattle.mailbox.proofs.device.Device.TheLaws as DeviceL
 use Rattle.labels.specs.Labels.{label_size}
 use Rattle.embed.specs.declared.Done.{Done}
-use Rattle.embed.specs.declared.Line.{Line}
-use Rattle.embed.specs.Left.{answered, LogEmptied, WorkEnded, Commanded, WithoutArea, LineTold, seen}
+use Rattle.embed.specs.Left.{answered, LogEmptied, WorkEnded, Commanded, WithoutArea}
 use Rattle.embed.proofs.Indexed.{count}
 
 -- what lies behind the pointer is a device: each number fits its field, each array has its length
@@ -65,36 +56,19 @@ sized d was =
 five : (d : Device) → Held d → length d.logs ≡ 5
 five d was = count LogT.the_type LogL.the_laws 5 d.logs _ (LL.owed DeviceT.the_type DeviceL.the_laws d _ was).1.1.1.1.0
 
--- ---- the line test
+-- ---- the line test and the damage total
 -- a device's list is valid on the largest device
 any_lines : (d : Device) → ValidDevice d → ValidList capacity d.poison
 any_lines d v = valid_more (omega (arith, v.few_units)) v.poison
 
-pub line_in_asks : (d : Device) (address : ℕ) → ValidDevice d → Sized d.poison
-    → (d.volatile + d.persistent ≤ most_units) × ValidRuns capacity d.poison.count d.poison.starts d.poison.lengths × (length d.poison.kinds ≡ 256)
-line_in_asks d address v long = (v.few_units, valid_runs d.poison long (any_lines d v), long.kinds)
-
--- the test sees no other part of the device
-abbrev seen_of : Device → DeviceState
-seen_of d = seen d.volatile d.persistent d.media.disabled (list_in d.poison.count d.poison.starts d.poison.lengths d.poison.kinds d.poison.overflow)
-
-pub line_in_gives : (d : Device) (address : ℕ) → ValidDevice d → (r : Line) → LineTold (line_test (seen_of d) address) r → LineTold (line_test (state_of d) address) r
-unfolding line_test
-line_in_gives d address v r told = record { code = told.code; answer = told.answer; kind = told.kind }
-
--- ---- the damage total
-pub total_in_asks : (d : Device) → ValidDevice d → d.poison.count ≤ 256
-total_in_asks d v = v.poison.few
-
-pub total_in_gives : (d : Device) → ValidDevice d → Sized d.poison → (r : ℕ) → r ≡ total_in d.poison.count d.poison.lengths → r ≡ damage_total (state_of d)
-total_in_gives d v long r e = e ∙ total_is d.poison long
+pub test_asks : (d : Device) → ValidDevice d → ValidShapes capacity d.poison
+test_asks d v = valid_shapes (any_lines d v)
 
 -- ---- a command of the second mailbox (document 02, W-208)
 module _ (d : Device) (opcode : ℕ) (payload : List ℕ) (time : ℕ) (reply : List ℕ) (v : ValidDevice d) where
-  module _ (long : Sized d.poison) (k : ℕ) (named : (k ≡ log_named payload) × (k < 5)) where
-    pub pool_command_in_asks : (d.volatile + d.persistent ≤ most_units) × ValidSlots (unit_lines * (d.volatile + d.persistent)) d.poison.count d.poison.starts d.poison.lengths d.poison.kinds
-        × ValidLog (get_or d.logs k blank)
-    pool_command_in_asks = (v.few_units, valid_slots d.poison long v.poison, v.logs.each k named.1)
+  module _ (k : ℕ) (named : (k ≡ log_named payload) × (k < 5)) where
+    pub pool_command_in_asks : (d.volatile + d.persistent ≤ most_units) × ValidList (unit_lines * (d.volatile + d.persistent)) d.poison × ValidLog (get_or d.logs k blank)
+    pool_command_in_asks = (v.few_units, v.poison, v.logs.each k named.1)
 
   module _ (k : ℕ) (named : (k ≡ log_named payload) × (k < 5)) where
     pub pool_command_in_gives : (r : Wire.Done) (after : List ℕ)
@@ -243,32 +217,31 @@ module _ (d : Device) (opcode : ℕ) (payload : List ℕ) (time : ℕ) (reply : 
       → Answered (answer (state_of d) opcode payload time area (length reply)) d (record { code = code; length = n; vector = numbered vector; device = next }) reply after
 
   module _ (v : ValidDevice d × (of_list opcode ≡ true)) where
-    pub list_command_in_place_asks : Sized d.poison
-        → (1 ≤ d.volatile + d.persistent) × (d.volatile + d.persistent ≤ most_units) × ValidSlots (unit_lines * (d.volatile + d.persistent)) d.poison.count d.poison.starts d.poison.lengths d.poison.kinds × (of_list opcode ≡ true)
-    list_command_in_place_asks long = (v.0.some_unit, v.0.few_units, valid_slots d.poison long v.0.poison, v.1)
+    pub list_command_asks : (1 ≤ d.volatile + d.persistent) × (d.volatile + d.persistent ≤ most_units) × ValidList (unit_lines * (d.volatile + d.persistent)) d.poison × (of_list opcode ≡ true)
+    list_command_asks = (v.0.some_unit, v.0.few_units, v.0.poison, v.1)
 
-    pub list_command_in_place_gives : (r : ListLeft) (starts lengths kinds after : List ℕ)
-        → ListAnswered d.media.disabled d.volatile d.persistent d.clock d.poison opcode payload time (record { code = r.code; length = r.length; list = list_of starts lengths kinds r.count r.overflow r.since }) reply after
-        → Gives r.code 0 r.length (device_of d.volatile d.persistent d.clock d.policy d.logs (list_of starts lengths kinds r.count r.overflow r.since) d.media) after
-    list_command_in_place_gives r starts lengths kinds after e area sized = command_vector (sym numbered_none) (list_parts_answered d v.0 area sized e)
+    pub list_command_gives : (r : ListParts) (after : List ℕ)
+        → ListAnswered d.media.disabled d.volatile d.persistent d.clock d.poison opcode payload time r reply after
+        → Gives r.code 0 r.length (device_of d.volatile d.persistent d.clock d.policy d.logs r.list d.media) after
+    list_command_gives r after e area sized = command_vector (sym numbered_none) (list_parts_answered d v.0 area sized e)
 
-  -- Inject Poison: the list's arrays and log 0
+  -- Inject Poison: the list and log 0
   module _ (v : ValidDevice d × (of_injection opcode ≡ true)) where
-    module _ (long : Sized d.poison) (k : ℕ) (named : (k ≡ log_at 0) × (k < 5)) where
-      pub inject_in_place_asks : (1 ≤ d.volatile + d.persistent) × (d.volatile + d.persistent ≤ most_units) × ValidSlots (unit_lines * (d.volatile + d.persistent)) d.poison.count d.poison.starts d.poison.lengths d.poison.kinds × ValidLog (get_or d.logs k blank)
-      inject_in_place_asks = (v.0.some_unit, v.0.few_units, valid_slots d.poison long v.0.poison, v.0.logs.each k named.1)
+    module _ (k : ℕ) (named : (k ≡ log_at 0) × (k < 5)) where
+      pub inject_command_asks : (1 ≤ d.volatile + d.persistent) × (d.volatile + d.persistent ≤ most_units) × ValidList (unit_lines * (d.volatile + d.persistent)) d.poison × ValidLog (get_or d.logs k blank)
+      inject_command_asks = (v.0.some_unit, v.0.few_units, v.0.poison, v.0.logs.each k named.1)
 
     module _ (many : length d.logs ≡ 5) (k : ℕ) (named : (k ≡ log_at 0) × (k < 5)) where
-      pub inject_in_place_gives : (r : InjectLeft) (starts lengths kinds after : List ℕ)
-          → ((overflow : Bool) (since : ℕ) → InjectAnswered d.media.disabled d.volatile d.persistent d.clock d.policy (get_or d.logs k blank) (list_of d.poison.starts d.poison.lengths d.poison.kinds d.poison.count overflow since) payload time (record { code = r.code; vector = r.vector; list = list_of starts lengths kinds r.count overflow since; log = r.log }) reply after)
-          → Gives r.code r.vector 0 (device_of d.volatile d.persistent d.clock d.policy (set d.logs k r.log) (list_of starts lengths kinds r.count d.poison.overflow d.poison.overflow_time) d.media) after
+      pub inject_command_gives : (r : InjectParts) (after : List ℕ)
+          → InjectAnswered d.media.disabled d.volatile d.persistent d.clock d.policy (get_or d.logs k blank) d.poison payload time r reply after
+          → Gives r.code r.vector 0 (device_of d.volatile d.persistent d.clock d.policy (set d.logs k r.log) r.list d.media) after
       unfolding log_at
-      inject_in_place_gives r starts lengths kinds after e =
+      inject_command_gives r after e =
           let at : (j : ℕ) → j ≡ 0
-          → InjectAnswered d.media.disabled d.volatile d.persistent d.clock d.policy (get_or d.logs j blank) d.poison payload time (record { code = r.code; vector = r.vector; list = list_of starts lengths kinds r.count d.poison.overflow d.poison.overflow_time; log = r.log }) reply after
-          → Gives r.code r.vector 0 (device_of d.volatile d.persistent d.clock d.policy (set d.logs j r.log) (list_of starts lengths kinds r.count d.poison.overflow d.poison.overflow_time) d.media) after
+          → InjectAnswered d.media.disabled d.volatile d.persistent d.clock d.policy (get_or d.logs j blank) d.poison payload time r reply after
+          → Gives r.code r.vector 0 (device_of d.volatile d.persistent d.clock d.policy (set d.logs j r.log) r.list d.media) after
           = λ j z. rw z (λ a area sized. inject_parts_answered d v.0 opcode area sized many v.1 a) in
-          at k named.0 (e d.poison.overflow d.poison.overflow_time)
+          at k named.0 e
 
   -- one log
   module _ (v : ValidDevice d × (of_log opcode ≡ true)) where
@@ -304,11 +277,10 @@ module _ (d : Device) (time log : ℕ) (event : List ℕ) (v : ValidDevice d) (e
 
 -- ---- the media report, likewise
 module _ (d : Device) (time address n kind : ℕ) (v : ValidDevice d) (e : Device) (ends : Ends d time e) where
-  pub media_report_in_place_asks : Sized e.poison → (1 ≤ e.volatile + e.persistent) × (e.volatile + e.persistent ≤ most_units) × ValidSlots (unit_lines * (e.volatile + e.persistent)) e.poison.count e.poison.starts e.poison.lengths e.poison.kinds
-  media_report_in_place_asks long = (ends.valid.some_unit, ends.valid.few_units, valid_slots e.poison long ends.valid.poison)
+  pub media_report_in_asks : (1 ≤ e.volatile + e.persistent) × (e.volatile + e.persistent ≤ most_units) × ValidList (unit_lines * (e.volatile + e.persistent)) e.poison
+  media_report_in_asks = (ends.valid.some_unit, ends.valid.few_units, ends.valid.poison)
 
-  pub media_report_in_place_gives : (r : MediaLeft) (starts lengths kinds : List ℕ)
-      → MediaIn e.volatile e.persistent e.clock e.poison time address n kind (record { code = r.code; stored = r.stored; dropped = r.dropped; list = list_of starts lengths kinds r.count r.overflow r.since })
+  pub media_report_in_gives : (r : MediaParts) → MediaIn e.volatile e.persistent e.clock e.poison time address n kind r
       → AfterEnding d time (λ (x : Device). MediaDone (media_report (state_of d) time address n kind) x
-      (record { code = r.code; stored = r.stored; dropped = r.dropped; device = device_of e.volatile e.persistent e.clock e.policy e.logs (list_of starts lengths kinds r.count r.overflow r.since) e.media }))
-  media_report_in_place_gives r starts lengths kinds a = after_media ends address n kind (media_parts_done e ends.valid a)
+      (record { code = r.code; stored = r.stored; dropped = r.dropped; device = device_of e.volatile e.persistent e.clock e.policy e.logs r.list e.media }))
+  media_report_in_gives r a = after_media ends address n kind (media_parts_done e ends.valid a)

@@ -1,6 +1,5 @@
-// The device behind a pointer, for Rust to call, and for C through crate `embed_c`, which exports these functions under their names. A function here copies nothing that it neither changes nor hands on: it takes the parts of
-// the device that a call sees, calls the mailbox's function over those parts, and stores the parts that changed. Every call that reads or changes
-// the arrays of the poison list lends them where they lie (document 02, W-203). Event status hands on the device by value and make stores one: what the compiler
+// The device behind a pointer, for Rust to call, and for C through crate `embed_c`, which exports these functions under their names. A function here lends the parts of
+// the device that a call sees to the mailbox's function over those parts, which changes them where they lie (document 02, W-203). Event status hands on the device by value and make stores one: what the compiler
 // leaves of these copies is measured and not proved.
 // What a caller owes, and nothing here checks: the device was made by `kulduvost_make` and changed by these functions alone, nothing else uses it during a call, the lengths
 // that come with pointers are true, and no two of the areas handed over overlap.
@@ -8,9 +7,6 @@
 
 ghost use Rattle.std.specs.Prelude.{◌≡◌, true, false, ◌+◌, ◌≤◌, length};
 ghost use Rattle.labels.specs.Labels.{label_size};
-ghost use Rattle.poison.specs.State.{capacity, ValidRuns};
-ghost use Rattle.poison.specs.LineTest.{list_in};
-ghost use Rattle.commands.specs.Numbers.{most_units};
 ghost use Rattle.mailbox.specs.State.{ValidDevice, state_of};
 ghost use Rattle.mailbox.specs.Mailbox.{outcome, area_after};
 ghost use Rattle.mailbox.specs.Pool.{pool_answer};
@@ -20,21 +16,19 @@ ghost use Rattle.mailbox.specs.Relations.{Answered, Makes, EventDone, MediaDone,
 ghost use Rattle.mailbox.specs.Ending.{Ends, AfterEnding};
 ghost use Rattle.mailbox.specs.declared.device.Device.{Device};
 ghost use Rattle.mailbox.specs.ByParts.{of_area, of_list, of_injection, of_log, log_at};
-ghost use Rattle.embed.specs.Left.{made, answered, pool_told, LogEmptied, WorkEnded, Commanded, WithoutArea, event_told, media_told, LineTold, seen, device_size};
+ghost use Rattle.embed.specs.Left.{made, answered, pool_told, LogEmptied, WorkEnded, Commanded, WithoutArea, event_told, media_told, LineTold, device_size};
 
 use events::empty;
 use events::status::Status;
 use mailbox::device::Device;
 use mailbox::{by_parts, pool};
 use poison::line_test::LineTest;
-use poison::list::PoisonList;
-use poison::{line_test, list};
 use settings::media::MediaState;
 use wire::returns;
 
 // The answer to a command: the return number, the number of the vector to raise (document 02, W-204; 0 for none) and the length of the reply.
 #[repr(C)]
-#[derive(Clone, Copy)]
+#[derive(Clone, Copy, Debug, PartialEq, Eq)]
 pub struct Done {
     pub code: u16,
     pub vector: u8,
@@ -43,7 +37,7 @@ pub struct Done {
 
 // The answer to a command of the second mailbox (document 02, W-208): the return number and the length of the reply. It has no vector: none of its commands raises one.
 #[repr(C)]
-#[derive(Clone, Copy)]
+#[derive(Clone, Copy, Debug, PartialEq, Eq)]
 pub struct PoolDone {
     pub code: u16,
     pub length: usize,
@@ -51,7 +45,7 @@ pub struct PoolDone {
 
 // The answer to an event report: the return number, whether the record was stored, and the number of the vector to raise, 0 for none.
 #[repr(C)]
-#[derive(Clone, Copy)]
+#[derive(Clone, Copy, Debug, PartialEq, Eq)]
 pub struct Event {
     pub code: u16,
     pub stored: bool,
@@ -60,7 +54,7 @@ pub struct Event {
 
 // The answer to a media report: the return number, and the lines stored and dropped.
 #[repr(C)]
-#[derive(Clone, Copy)]
+#[derive(Clone, Copy, Debug, PartialEq, Eq)]
 pub struct Media {
     pub code: u16,
     pub stored: u32,
@@ -69,7 +63,7 @@ pub struct Media {
 
 // The answer to a line test: the return number, document 01's number of the answer (0 clean, 1 damaged, 2 unknown; 3 disabled, document 02, W-207) and the type of the damage, 0 where there is none.
 #[repr(C)]
-#[derive(Clone, Copy)]
+#[derive(Clone, Copy, Debug, PartialEq, Eq)]
 pub struct Line {
     pub code: u16,
     pub answer: u8,
@@ -91,15 +85,6 @@ pub fn kulduvost_make(device: &mut Device, volatile: u16, persistent: u16) -> u1
     let a = Device::make(volatile, persistent);
     *device = a.device;
     a.code
-}
-
-// What the type of a list says of its arrays, for the proofs of the functions that lend them out of a device. The prover learns it from a read of each array; as compiled nothing is left of them.
-fn sized(list: &PoisonList)
-    ensures { (length list.now.starts ≡ 256) × (length list.now.lengths ≡ 256) × (length list.now.kinds ≡ 256) }
-{
-    let _start = list.starts[0];
-    let _length = list.lengths[0];
-    let _kind = list.kinds[0];
 }
 
 // The three functions below end the work of a Sanitize that is due (document 02, W-207), before the call that comes at that time. Each log is emptied where it lies, one after the other.
@@ -141,7 +126,7 @@ fn end_due(device: &mut Device, time: u64)
 
 // The four functions below run a command on the part of the device that its opcode sees, a due Sanitize ended. They are not told of the label area: each requires a valid device and an opcode of that part, and
 // ensures the answer of the device as it is, whatever area of 4,096 bytes is lent (`WithoutArea`).
-// A command of the poison list alone: its arrays are lent.
+// A command of the poison list alone: the list is lent where it lies.
 fn run_on_list(
     device: &mut Device,
     opcode: u16,
@@ -152,14 +137,8 @@ fn run_on_list(
     requires { ValidDevice device.old × (of_list opcode ≡ true) }
     ensures { WithoutArea device.old opcode payload.now time reply.old result device.new reply.new }
 {
-    sized(&device.poison);
-    let a = by_parts::list_command_in_place(
-        &mut device.poison.starts,
-        &mut device.poison.lengths,
-        &mut device.poison.kinds,
-        device.poison.count,
-        device.poison.overflow,
-        device.poison.overflow_time,
+    let done = by_parts::list_command(
+        &mut device.poison,
         device.clock,
         device.volatile,
         device.persistent,
@@ -169,17 +148,14 @@ fn run_on_list(
         time,
         reply,
     );
-    device.poison.count = a.count;
-    device.poison.overflow = a.overflow;
-    device.poison.overflow_time = a.since;
     Done {
-        code: a.code,
+        code: done.code,
         vector: 0,
-        length: a.length,
+        length: done.length,
     }
 }
 
-// Inject Poison: the list's arrays are lent, log 0 is copied out and stored back.
+// Inject Poison: the list and log 0 are lent where they lie.
 fn run_injection(
     device: &mut Device,
     opcode: u16,
@@ -191,12 +167,9 @@ fn run_injection(
     ensures { WithoutArea device.old opcode payload.now time reply.old result device.new reply.new }
 {
     let k = by_parts::log_at(0);
-    let a = by_parts::inject_in_place(
-        &mut device.poison.starts,
-        &mut device.poison.lengths,
-        &mut device.poison.kinds,
-        device.poison.count,
-        device.logs[k],
+    let told = by_parts::inject_command(
+        &mut device.poison,
+        &mut device.logs[k],
         device.clock,
         device.policy,
         device.volatile,
@@ -206,31 +179,28 @@ fn run_injection(
         time,
         reply,
     );
-    device.poison.count = a.count;
-    device.logs[k] = a.log;
     Done {
-        code: a.code,
-        vector: a.vector,
+        code: told.code,
+        vector: told.vector,
         length: 0,
     }
 }
 
-// A command of one event log: that log is copied out and stored back.
+// A command of one event log: that log is lent where it lies.
 fn run_on_log(device: &mut Device, opcode: u16, payload: &[u8], time: u64, reply: &mut [u8]) -> Done
     requires { ValidDevice device.old × (of_log opcode ≡ true) }
     ensures { WithoutArea device.old opcode payload.now time reply.old result device.new reply.new }
 {
     let k = by_parts::log_named(payload);
-    let a = by_parts::log_command(device.logs[k], opcode, payload, reply);
-    device.logs[k] = a.log;
+    let done = by_parts::log_command(&mut device.logs[k], opcode, payload, reply);
     Done {
-        code: a.code,
+        code: done.code,
         vector: 0,
-        length: a.length,
+        length: done.length,
     }
 }
 
-// Every other command: clock, policy and media are copied out and stored back.
+// Every other command: clock, policy and media are lent where they lie.
 fn run_on_settings(
     device: &mut Device,
     opcode: u16,
@@ -241,25 +211,21 @@ fn run_on_settings(
     requires { ValidDevice device.old × (of_area opcode label_size ≡ false) × (of_list opcode ≡ false) × (of_injection opcode ≡ false) × (of_log opcode ≡ false) }
     ensures { WithoutArea device.old opcode payload.now time reply.old result device.new reply.new }
 {
-    let a = by_parts::settings_command(
+    let done = by_parts::settings_command(
         device.volatile,
         device.persistent,
-        device.clock,
-        device.policy,
-        device.media,
+        &mut device.clock,
+        &mut device.policy,
+        &mut device.media,
         opcode,
         payload,
         time,
         reply,
     );
-    device.clock = a.clock;
-    let policy = a.policy;
-    device.policy = policy;
-    device.media = a.media;
     Done {
-        code: a.code,
+        code: done.code,
         vector: 0,
-        length: a.length,
+        length: done.length,
     }
 }
 
@@ -276,11 +242,11 @@ fn run_on_area(
     requires { ValidDevice device.old × (of_area opcode (length area.old) ≡ true) }
     ensures { Commanded device.old opcode payload.now time area.old reply.old result device.new area.new reply.new }
 {
-    let a = by_parts::area_command(device.media.disabled, opcode, payload, area, reply);
+    let done = by_parts::area_command(device.media.disabled, opcode, payload, area, reply);
     Done {
-        code: a.code,
+        code: done.code,
         vector: 0,
-        length: a.length,
+        length: done.length,
     }
 }
 
@@ -331,7 +297,7 @@ pub fn kulduvost_command(
 }
 
 // A command of the second mailbox, the pool manager's, with the caller's time (document 02, W-208). The reply is written to the lent buffer; nothing is stored to the device, and a due Sanitize is not ended. Of the device the
-// arrays of the poison list are lent to be read, and the log that the payload names, the clock and the policy are copied out.
+// poison list and the log that the payload names are lent to be read, and the clock and the policy are handed on.
 // Requires a valid device, and leaves it. Ensures that the number, the length and every byte of the buffer are those of `pool_answer`.
 pub fn kulduvost_pool_command(
     device: &Device,
@@ -344,14 +310,9 @@ pub fn kulduvost_pool_command(
     ensures { Replied (pool_answer (state_of device.now) opcode payload.now time (length reply.old)) (pool_told result) reply.old reply.new }
 {
     let k = by_parts::log_named(payload);
-    let a = pool::pool_command_in(
-        &device.poison.starts,
-        &device.poison.lengths,
-        &device.poison.kinds,
-        device.poison.count,
-        device.poison.overflow,
-        device.poison.overflow_time,
-        device.logs[k],
+    let done = pool::pool_command_in(
+        &device.poison,
+        &device.logs[k],
         device.clock,
         device.policy,
         device.volatile,
@@ -362,12 +323,12 @@ pub fn kulduvost_pool_command(
         reply,
     );
     PoolDone {
-        code: a.code,
-        length: a.length,
+        code: done.code,
+        length: done.length,
     }
 }
 
-// Event report of a record to a log, at the caller's time. That log alone is copied out and stored back.
+// Event report of a record to a log, at the caller's time. That log is lent where it lies.
 // Requires a valid device. Ensures that the answer and the device left are those of `event_report`, that a refusal leaves the device that the end of a due Sanitize leaves, the very same where none is due, and that the device left is valid.
 pub fn kulduvost_event_report(device: &mut Device, time: u64, log: u8, event: &[u8]) -> Event
     requires { ValidDevice device.old }
@@ -375,23 +336,22 @@ pub fn kulduvost_event_report(device: &mut Device, time: u64, log: u8, event: &[
 {
     end_due(device, time);
     let k = by_parts::log_at(log);
-    let a = by_parts::event_report_in(
-        device.logs[k],
+    let told = by_parts::event_report_in(
+        &mut device.logs[k],
         device.clock,
         device.policy,
         time,
         log,
         event,
     );
-    device.logs[k] = a.log;
     Event {
-        code: a.code,
-        stored: a.stored,
-        vector: a.vector,
+        code: told.code,
+        stored: told.stored,
+        vector: told.vector,
     }
 }
 
-// Media report of damage: so many lines from an address on, of a type, at the caller's time. The arrays of the poison list are lent.
+// Media report of damage: so many lines from an address on, of a type, at the caller's time. The poison list is lent where it lies.
 // Requires a valid device. Ensures that the answer and the device left are those of `media_report`, that a refusal leaves the device that the end of a due Sanitize leaves, the very same where none is due, and that the device left is valid.
 pub fn kulduvost_media_report(
     device: &mut Device,
@@ -404,14 +364,8 @@ pub fn kulduvost_media_report(
     ensures { AfterEnding device.old time (λ (e : Device). MediaDone (media_report (state_of device.old) time address lines kind) e (media_told result device.new)) }
 {
     end_due(device, time);
-    sized(&device.poison);
-    let a = by_parts::media_report_in_place(
-        &mut device.poison.starts,
-        &mut device.poison.lengths,
-        &mut device.poison.kinds,
-        device.poison.count,
-        device.poison.overflow,
-        device.poison.overflow_time,
+    let told = by_parts::media_report_in(
+        &mut device.poison,
         device.clock,
         device.volatile,
         device.persistent,
@@ -420,33 +374,21 @@ pub fn kulduvost_media_report(
         lines,
         kind,
     );
-    device.poison.count = a.count;
-    device.poison.overflow = a.overflow;
-    device.poison.overflow_time = a.since;
     Media {
-        code: a.code,
-        stored: a.stored,
-        dropped: a.dropped,
+        code: told.code,
+        stored: told.stored,
+        dropped: told.dropped,
     }
 }
 
-// Line test over the parts of a device that it sees, with its answer as numbers. A refused test answers unknown, with type 0.
-// Requires no more units than a device has, and arrays of 256 whose first `count` runs are in order and apart. Ensures the answer of `line_test` on a device with these parts.
-fn line_in<'a>(
-    starts: &'a [u32; 256],
-    lengths: &'a [u32; 256],
-    kinds: &'a [u8; 256],
-    count: usize,
-    overflow: bool,
-    disabled: bool,
-    volatile: u16,
-    persistent: u16,
-    address: u64,
-) -> Line
-    requires { (volatile + persistent ≤ most_units) × ValidRuns capacity count starts.now lengths.now × (length kinds.now ≡ 256) }
-    ensures { LineTold (line_test (seen volatile persistent disabled (list_in count starts.now lengths.now kinds.now overflow)) address) result }
+// Line test: what the host is told of the line at an address, with its answer as numbers. A refused test answers unknown, with type 0. It carries no time, and ends no Sanitize. Nothing
+// of the list is copied.
+// Requires a valid device, and leaves it. Ensures the answer of `line_test`.
+pub fn kulduvost_line_test(device: &Device, address: u64) -> Line
+    requires { ValidDevice device.now }
+    ensures { LineTold (line_test (state_of device.now) address) result }
 {
-    let code = by_parts::check_address(volatile, persistent, address);
+    let code = by_parts::check_address(device.volatile, device.persistent, address);
     if code != returns::SUCCESS {
         return Line {
             code,
@@ -454,52 +396,19 @@ fn line_in<'a>(
             kind: 0,
         };
     }
-    if disabled {
+    if device.media.disabled {
         return Line {
             code,
             answer: 3,
             kind: 0,
         };
     }
-    let line = (address / 64) as u32;
-    let answer = line_test::test_in(starts, lengths, kinds, count, overflow, line);
-    match answer {
-        LineTest::Clean => Line {
-            code,
-            answer: 0,
-            kind: 0,
-        },
-        LineTest::Damaged(kind) => Line {
-            code,
-            answer: 1,
-            kind,
-        },
-        LineTest::Unknown => Line {
-            code,
-            answer: 2,
-            kind: 0,
-        },
-    }
-}
-
-// Line test: what the host is told of the line at an address. It carries no time, and ends no Sanitize. Nothing of the list is copied but its count and its flag.
-// Requires a valid device, and leaves it. Ensures the answer of `line_test`.
-pub fn kulduvost_line_test(device: &Device, address: u64) -> Line
-    requires { ValidDevice device.now }
-    ensures { LineTold (line_test (state_of device.now) address) result }
-{
-    sized(&device.poison);
-    line_in(
-        &device.poison.starts,
-        &device.poison.lengths,
-        &device.poison.kinds,
-        device.poison.count,
-        device.poison.overflow,
-        device.media.disabled,
-        device.volatile,
-        device.persistent,
-        address,
-    )
+    let (answer, kind) = match device.poison.test((address / 64) as u32) {
+        LineTest::Clean => (0, 0),
+        LineTest::Damaged(kind) => (1, kind),
+        LineTest::Unknown => (2, 0),
+    };
+    Line { code, answer, kind }
 }
 
 // Event status: which logs wait, how many, and the highest-numbered one, 5 where none waits.
@@ -511,12 +420,11 @@ pub fn kulduvost_event_status(device: &Device) -> Status
     Device::event_status(*device)
 }
 
-// Damage total: the sum of the entries' lengths, over the array of lengths where it lies.
+// Damage total: the sum of the entries' lengths, over the list where it lies.
 // Requires a valid device, and leaves it. Ensures the answer of `damage_total`.
 pub fn kulduvost_damage_total(device: &Device) -> u64
     requires { ValidDevice device.now }
     ensures { result ≡ damage_total (state_of device.now) }
 {
-    sized(&device.poison);
-    list::total_in(&device.poison.lengths, device.poison.count)
+    device.poison.total()
 }

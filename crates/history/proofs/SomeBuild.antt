@@ -25,7 +25,7 @@ use Rattle.mailbox.specs.Pool.{pool_answer}
 use Rattle.mailbox.specs.DeviceCalls as Device
 use Rattle.settings.specs.Vector.{numbered}
 use Rattle.mailbox.specs.declared.device.Device.{Device}
-use Rattle.settings.specs.declared.vector.Vector.TheVariants.{None}
+use Rattle.std.specs.Prelude.{None}
 use Rattle.mailbox.proofs.Laws.{carries_numbered, refusal, event_refusal, media_refusal, ended_none}
 use Rattle.history.specs.Builds.{Build, Meets, RefusesAll, FixedReply, ChangesNothing, KeepsFirst, of_media}
 use Rattle.wire.proofs.Laws.{either}

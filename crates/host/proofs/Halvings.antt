@@ -16,27 +16,12 @@ use Rattle.commands.specs.Numbers.{poison_records}
 use Rattle.mailbox.specs.State.{lines_of, state_of}
 use Rattle.list_commands.specs.PoisonCommands.{list_reply}
 use Rattle.host.specs.Walk.{halves, first_half}
-use Rattle.host.specs.Walking.{held, walk_of, Askable, RangeAsked, Copied, Wrote}
+use Rattle.host.specs.Walking.{held, walk_of, Askable, RangeAsked, IsHalved, IsWhole, Copied, Wrote}
 use Rattle.host.proofs.WalkLaws.{two_lines, walk_halved, walk_whole}
 use Rattle.host.proofs.WalkLines.{length_walk}
 use Rattle.host.proofs.WalkRecords.{records_append}
+use Rattle.host.proofs.WalkCalls.{range_askable, range_few, by_device, too_many}
 use Rattle.host.proofs.WalkReplies.{length_reply, few_carried, half_of_reply, records_part}
-
--- ---- a range that is halved, with h lines in its first half
-pub record Halved (d : Device) (a n h : ℕ) : Type 0 where
-  pub lines : 1 < n
-  pub half : h ≡ n / 2
-  pub first : Askable d a h
-  pub second : Askable d (a + h) (n - h)
-  pub is : walk_of d a n ≡ walk_of d a h ++ walk_of d (a + h) (n - h)
-  pub sizes : length (walk_of d a n) ≡ length (walk_of d a h) + length (walk_of d (a + h) (n - h))
-  pub few : length (walk_of d a n) ≤ n
-
--- ---- one that is not: its reply, of r bytes at the start of s
-pub record Whole (d : Device) (a n r : ℕ) (s : List ℕ) : Type 0 where
-  pub size : r ≡ 32 + 16 * length (walk_of d a n)
-  pub few : length (walk_of d a n) ≤ 126
-  pub bytes : part 32 (r - 32) s ≡ records_bytes (walk_of d a n)
 
 -- a walk has no more records than lines
 pub few_records : {d : Device} {a n : ℕ} → Askable d a n → length (walk_of d a n) ≤ n
@@ -44,7 +29,7 @@ few_records {d} {a} {n} q = length_walk (held d) (lines_of (state_of d)) q.valid
 
 -- the two halves at the length that the code found
 halved_at : {d : Device} {a n : ℕ} (h : ℕ) → h ≡ n / 2 → 1 < n → Askable d a n
-    → walk_of d a n ≡ walk_of d a (n / 2) ++ walk_of d (a + n / 2) (n - n / 2) → Halved d a n h
+    → walk_of d a n ≡ walk_of d a (n / 2) ++ walk_of d (a + n / 2) (n - n / 2) → IsHalved d a n h
 halved_at {d} {a} {n} h e l q w =
     let is : walk_of d a n ≡ walk_of d a h ++ walk_of d (a + h) (n - h) = rw e w in
     record {
@@ -76,17 +61,17 @@ module _ {d : Device} {a n r h : ℕ} {before s : List ℕ} (q : Askable d a n) 
       go true e f g = f e refl
       go false e f g = g e refl
 
-  pub halved : 0 < h → Halved d a n h
+  pub halved : 0 < h → IsHalved d a n h
   halved some = go either
     where
-      go : Either d a n h → Halved d a n h
+      go : Either d a n h → IsHalved d a n h
       go (in_two e t) = halved_at h e (two_lines poison_records (held d) a n t) q (walk_halved poison_records (held d) a n t)
       go (in_one e t) = absurd (omega arith)
 
-  pub whole : h ≤ 0 → 2048 ≤ length before → Whole d a n r s
+  pub whole : h ≤ 0 → 2048 ≤ length before → IsWhole d a n r s
   whole none room = go either
     where
-      go : Either d a n h → Whole d a n r s
+      go : Either d a n h → IsWhole d a n r s
       go (in_two e t) = let l = two_lines poison_records (held d) a n t in absurd (omega arith)
       go (in_one e t) =
           let w = walk_whole poison_records (held d) a n t in
@@ -101,7 +86,7 @@ module _ {d : Device} {a n r h : ℕ} {before s : List ℕ} (q : Askable d a n) 
 
 -- ---- records written
 -- those of both halves, one after the other
-pub wrote_halves : {d : Device} {a n h at next r : ℕ} {xs ys zs : List ℕ} → Halved d a n h → at + 16 * length (walk_of d a n) ≤ length xs
+pub wrote_halves : {d : Device} {a n h at next r : ℕ} {xs ys zs : List ℕ} → IsHalved d a n h → at + 16 * length (walk_of d a n) ≤ length xs
     → Wrote (walk_of d a h) at next xs ys → Wrote (walk_of d (a + h) (n - h)) next r ys zs → Wrote (walk_of d a n) at r xs zs
 wrote_halves {d} {a} {n} {h} {at} {next} {r} {xs} {ys} {zs} w room p q =
     let es = walk_of d a h in
@@ -118,6 +103,9 @@ wrote_halves {d} {a} {n} {h} {at} {next} {r} {xs} {ys} {zs} w room p q =
     }
 
 -- those of one reply
-pub wrote_whole : {d : Device} {a n size at r : ℕ} {s xs ys : List ℕ} → Whole d a n size s → Copied s size at r xs ys → Wrote (walk_of d a n) at r xs ys
+pub wrote_whole : {d : Device} {a n size at r : ℕ} {s xs ys : List ℕ} → IsWhole d a n size s → Copied s size at r xs ys → Wrote (walk_of d a n) at r xs ys
 wrote_whole {d} {a} {n} {size} {at} {r} {s} {xs} {ys} w k =
     record { next = omega (arith, w.size, k.next); bytes = k.bytes ∙ ap (λ (l : List ℕ). splice at l xs) w.bytes }
+
+-- what the check looks for in `walk`
+pub ruleset walking = (range_askable, range_few, few_records, by_device, too_many)

@@ -128,3 +128,6 @@ module _ (s : PoisonState) (a n : ℕ) where
       ap (part 32 (16 * length carried)) (sym (joined 0 32 head (records_bytes carried) xs (omega arith) (omega arith)))
       ∙ ap (λ (j : ℕ). part 32 j (splice 32 (records_bytes carried) (splice 0 head xs))) (sym r)
       ∙ part_written 32 (records_bytes carried) (splice 0 head xs) (rw (length_splice 0 head xs (omega arith)) (omega arith))
+
+-- the three cases of the step, for the check
+pub ruleset half_cases = (half_empty, half_clear, half_set)

@@ -1,4 +1,6 @@
 // The buffer that a call writes, and the line that tells what came back in it (document 10, "Rules", "room, fill").
+#![tactic(auto, using(crate::proofs::BufferLaws::putting))]
+
 ghost use Rattle.std.specs.Prelude.{◌≡◌, [], ◌∷◌, ◌+◌, ◌*◌, ◌≤◌, length, take, drop, replicate};
 ghost use Rattle.protocol.specs.Text.{bytes_column};
 ghost use Rattle.protocol.specs.Relations.{Puts, PutsLine};
@@ -13,11 +15,7 @@ pub const LINE_ROOM: usize = 20000;
 pub fn fill(buffer: &mut [u8], byte: u8)
     ensures { buffer.new ≡ replicate (length buffer.old) byte }
 {
-    let mut i: usize = 0;
-    while i < buffer.len() {
-        buffer[i] = byte;
-        i += 1;
-    }
+    buffer.fill(byte);
 }
 
 // Whether the bytes from index n on are all `byte`.
@@ -25,14 +23,7 @@ fn kept(buffer: &[u8], n: usize, byte: u8) -> bool
     requires { n ≤ length buffer.now }
     ensures { result ≡ still byte (drop n buffer.now) }
 {
-    let mut i = n;
-    while i < buffer.len() {
-        if buffer[i] != byte {
-            return false;
-        }
-        i += 1;
-    }
-    true
+    buffer[n..].iter().all(|&kept| kept == byte)
 }
 
 // A column: a space and the first n bytes in hexadecimal, or a minus sign where there are none.
@@ -62,9 +53,8 @@ pub fn put_buffer(
     requires { (n ≤ length buffer.now) × (n ≤ 5120) × (used + line_room ≤ length out.old) }
     ensures { Puts used (buffer_columns (first ∷ second ∷ []) code n byte buffer.now) out.old out.new result }
 {
-    let number = code as u64;
-    let length = n as u64;
-    let numbers = [number, length];
+    // By `as`: `u64::from` is a call, whose result each answer would have to equate with the number.
+    let numbers = [code as u64, n as u64];
     let head = output::put_columns(out, used, first, second, &numbers);
     let at = put_some(out, head, buffer, n);
     let others = kept(buffer, n, byte);

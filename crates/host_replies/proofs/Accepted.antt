@@ -2,7 +2,7 @@
 use mathlib.Core.Path.{◌≡◌, refl, sym, ap, ◌∙◌}
 use mathlib.Core.Bool.{Bool, true, false, ◌&&◌}
 use mathlib.Core.List.{List}
-use Prim.Native.Nat.{ℕ, ◌+◌, ◌*◌, ◌<◌}
+use Prim.Native.Nat.{ℕ, ◌+◌, ◌*◌, ◌≤◌, ◌<◌}
 use native.Mathlib.Omega.{arith}
 use lib.Dec.{eqb, leb}
 use lib.ListN.{length, get_or}
@@ -11,15 +11,11 @@ use Rattle.wire.specs.Wire.{field}
 use Rattle.wire.specs.Returns.{need}
 use Rattle.host_replies.specs.declared.counted.Kind.{Kind}
 use Rattle.host_replies.specs.declared.counted.Kind.TheVariants.{EventRecords, SupportedLogs, PoisonList}
-use Rattle.host_replies.specs.declared.reply.EventsRead.{EventsRead}
-use Rattle.host_replies.specs.declared.reply.PolicyRead.{PolicyRead}
-use Rattle.host_replies.specs.declared.reply.TimeRead.{TimeRead}
-use Rattle.host_replies.specs.declared.reply.LogsRead.{LogsRead}
-use Rattle.host_replies.specs.declared.reply.IdentityRead.{IdentityRead}
-use Rattle.host_replies.specs.declared.reply.ListRead.{ListRead}
+use Rattle.host_replies.specs.Replies.{EventsRead, PolicyRead, TimeRead, LogsRead, IdentityRead, ListRead, events_of, logs_of, list_of, list_fields, read_poison_list, read_nothing}
 use Rattle.host_replies.specs.Counted.{header_size, count_place, record_size, reserved, first_reserved, counted, verdict_of, verdict}
+use Rattle.host_replies.specs.declared.reply.EventFields.{EventFields}
+use Rattle.host_replies.specs.declared.reply.ListFields.{ListFields}
 use Rattle.host_replies.specs.Replies.{event_fields, read_event_records, read_policy, read_timestamp, read_supported_logs, read_log, identity_fields, read_identity}
-use Rattle.host_replies.specs.Replies.{list_fields, read_poison_list, read_nothing}
 use Rattle.host_replies.specs.Fields.{Good}
 use Rattle.host_replies.proofs.Bytes.{reserved_none}
 
@@ -133,3 +129,25 @@ module _ (bs : List ℕ) where
   pub nothing_taken : length bs ≡ 0 → read_nothing bs ≡ 0
   unfolding read_nothing
   nothing_taken e = rw (eq-eqb (length bs) 0 e)
+
+  -- ---- the fields that a reading gives come with the header, and with as many records as their count says
+  pub events_whole : {f : EventFields} → events_of 0 0 f ≡ read_event_records bs → (32 ≤ length bs) × (length bs ≡ 32 + 128 * f.count)
+  unfolding header_size count_place record_size event_fields
+  events_whole e =
+      let z = events_code (sym (ap (λ (r : EventsRead). r.code) e)) in
+      let g = verdict_zero EventRecords bs z in
+      (g.header, g.long ∙ ap (λ (r : EventsRead). 32 + 128 * r.fields.count) (sym (e ∙ events_taken z)))
+
+  pub logs_whole : {n : ℕ} → logs_of 0 0 n ≡ read_supported_logs bs → (8 ≤ length bs) × (length bs ≡ 8 + 20 * n)
+  unfolding header_size count_place record_size
+  logs_whole e =
+      let z = logs_code (sym (ap (λ (r : LogsRead). r.code) e)) in
+      let g = verdict_zero SupportedLogs bs z in
+      (g.header, g.long ∙ ap (λ (r : LogsRead). 8 + 20 * r.count) (sym (e ∙ logs_taken z)))
+
+  pub list_whole : {f : ListFields} → list_of 0 0 f ≡ read_poison_list bs → (32 ≤ length bs) × (length bs ≡ 32 + 16 * f.count)
+  unfolding header_size count_place record_size list_fields
+  list_whole e =
+      let z = list_code (sym (ap (λ (r : ListRead). r.code) e)) in
+      let g = verdict_zero PoisonList bs z in
+      (g.header, g.long ∙ ap (λ (r : ListRead). 32 + 16 * r.fields.count) (sym (e ∙ list_taken z)))

@@ -34,12 +34,7 @@ use Rattle.mailbox.specs.Mailbox.{run_command, inject, outcome}
 use Rattle.mailbox.specs.Pool.{pool_answer}
 use Rattle.mailbox.proofs.Laws.{accepted_runs, pool_replies}
 use Rattle.host_replies.specs.declared.counted.Kind.TheVariants.{SupportedLogs}
-use Rattle.host_replies.specs.declared.reply.EventsRead.{EventsRead}
-use Rattle.host_replies.specs.declared.reply.LogsRead.{LogsRead}
-use Rattle.host_replies.specs.declared.reply.IdentityRead.{IdentityRead}
-use Rattle.host_replies.specs.declared.reply.ListRead.{ListRead}
-use Rattle.host_replies.specs.declared.reply.PolicyRead.{PolicyRead}
-use Rattle.host_replies.specs.declared.reply.TimeRead.{TimeRead}
+use Rattle.host_replies.specs.Replies.{EventsRead, LogsRead, IdentityRead, ListRead, PolicyRead, TimeRead}
 use Rattle.host_replies.specs.Counted.{header_size, record_size, first_reserved, reserved, writing_verdict}
 use Rattle.host_replies.specs.Replies.{read_timestamp, read_supported_logs, logs_header, identity_limits, identity_bytes, read_identity, read_nothing, supported_log}
 use Rattle.host_replies.specs.Fields.{IdentityWidths}

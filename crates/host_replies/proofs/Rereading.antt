@@ -16,14 +16,12 @@ use Rattle.wire.proofs.Splice.{number_le, field_front, field_past, part_front, n
 use Rattle.events.specs.Get.{header}
 use Rattle.host_replies.specs.declared.counted.Kind.{Kind}
 use Rattle.host_replies.specs.declared.counted.Kind.TheVariants.{EventRecords, SupportedLogs, PoisonList}
-use Rattle.host_replies.specs.declared.counted.Verdict.{Verdict}
+use Rattle.host_replies.specs.Counted.{Verdict, header_size, count_place, record_size, reserved, first_reserved, verdict_of, verdict, writing_verdict, rewritten}
 use Rattle.host_replies.specs.declared.reply.EventFields.{EventFields}
 use Rattle.host_replies.specs.declared.reply.IdentityFields.{IdentityFields}
 use Rattle.host_replies.specs.declared.reply.ListFields.{ListFields}
 use Rattle.wire.specs.Done.{written, refused}
-use Rattle.host_replies.specs.Counted.{header_size, count_place, record_size, reserved, first_reserved, verdict_of, verdict, writing_verdict, rewritten}
-use Rattle.host_replies.specs.Replies.{event_fields, read_event_records, event_header, read_policy, read_timestamp, read_supported_logs, logs_header, read_log}
-use Rattle.host_replies.specs.Replies.{list_fields, read_poison_list, list_header}
+use Rattle.host_replies.specs.Replies.{event_fields, read_event_records, event_header, read_policy, read_timestamp, read_supported_logs, logs_header, read_log, list_fields, read_poison_list, list_header}
 use Rattle.host_replies.specs.Replies.{identity_fields, read_identity, identity_limits, identity_bytes, write_identity, read_nothing, write_bytes}
 use Rattle.host_replies.specs.Fields.{Good, EventWidths, ListWidths, IdentityWidths, SameFields}
 use Rattle.host_replies.proofs.CountedLaws.{count_inside}

@@ -13,8 +13,7 @@ use Rattle.host_replies.specs.declared.counted.Kind.TheVariants.{EventRecords, S
 use Rattle.events.specs.Get.{header}
 use Rattle.wire.specs.Done.{written}
 use Rattle.host_replies.specs.Counted.{header_size, count_place, record_size, first_reserved, verdict_of, writing_verdict, rewritten}
-use Rattle.host_replies.specs.Replies.{event_fields, read_event_records, event_header, read_policy, read_timestamp, read_supported_logs, logs_header, read_log}
-use Rattle.host_replies.specs.Replies.{list_fields, read_poison_list, list_header}
+use Rattle.host_replies.specs.Replies.{event_fields, read_event_records, event_header, read_policy, read_timestamp, read_supported_logs, logs_header, read_log, list_fields, read_poison_list, list_header}
 use Rattle.host_replies.specs.Replies.{identity_fields, read_identity, identity_limits, identity_bytes, write_identity, read_nothing, write_bytes}
 use Rattle.host_replies.specs.Fields.{Bytes, Good, SameBytes}
 use Rattle.wire.proofs.Laws.{part_whole}
@@ -39,7 +38,7 @@ module _ (k : Kind) (bs : List ℕ) (g : Good k bs) where
       let l = length-drop (header_size k) bs in
       let count : length (drop (header_size k) bs) ≡ record_size k * field bs (count_place k) 2 = omega (arith, g.long) in
       let v : (room : ℕ) → length bs ≤ room → writing_verdict k (field bs (count_place k) 2) (drop (header_size k) bs) room ≡ verdict_of 0 0 =
-      λ room fits. sym (written_verdict k (field bs (count_place k) 2) (drop (header_size k) bs) room refl refl (omega arith) count refl records_clear)
+      λ room fits. sym (written_verdict k (field bs (count_place k) 2) (drop (header_size k) bs) room (omega arith) count records_clear)
       in
       record {
         written = v;

@@ -1,5 +1,4 @@
--- Get LSA and Set LSA by their cases: what is given where each check fails, and where none does; of a Set, by the offset o and the number n of data bytes that the code has.
--- Assumes nothing.
+-- Get LSA and Set LSA by their cases: what is given where each check fails, and where none does; what holds of a Set LSA that none refuses, and what it leaves of the area. Assumes nothing.
 use mathlib.Core.Path.{◌≡◌, refl, sym, ap, ap₂, ◌∙◌}
 use mathlib.Core.List.{List}
 use mathlib.Core.Bool.{Bool, true, false, cond}
@@ -30,31 +29,7 @@ module _ (most : ℕ) (p area : List ℕ) where
     unfolding get_labels
     get_read e = simp (le-leb _ _ short, e)
 
--- ---- Set LSA: its checks
-pub data_length : (p : List ℕ) → length (label_data p) ≡ length p - 8
-data_length p = length-drop 8 p
-
-module _ (p : List ℕ) {o n : ℕ} (eo : o ≡ label_offset p) (en : n ≡ length p - 8) where
-  ends : leb (label_offset p + length (label_data p)) label_size ≡ leb (o + n) label_size
-  ends = ap₂ (λ (x y : ℕ). leb (x + y) label_size) (sym eo) (data_length p ∙ sym en)
-
-  pub set_past : leb (o + n) label_size ≡ false → invalid_input ≡ set_code p
-  unfolding set_code
-  set_past e = simp (ends ∙ e)
-
-  module _ (inside : leb (o + n) label_size ≡ true) {r : ℕ} (er : r ≡ labels_reserved p) where
-    pub set_reserved : (r ≡ 0 → ⊥) → invalid_input ≡ set_code p
-    unfolding set_code
-    set_reserved f = simp (ends ∙ inside, ne_eqb (labels_reserved p) 0 (λ z. f (er ∙ z)))
-
-    pub set_right : r ≡ 0 → 0 ≡ set_code p
-    unfolding set_code
-    set_right z = simp (ends ∙ inside, eq-eqb (labels_reserved p) 0 (sym er ∙ z))
-
--- more data than the area has bytes
-pub set_long : (p : List ℕ) → label_size < length p - 8 → invalid_input ≡ set_code p
-set_long p l = set_past p {o = label_offset p} {n = length p - 8} refl refl (lt-leb (label_offset p + (length p - 8)) label_size (omega arith))
-
+-- ---- Set LSA
 -- a Set that none refuses: it ends in the area, and its reserved bytes are zero
 pub set_accepted : (p : List ℕ) → set_code p ≡ 0 → (label_offset p + length (label_data p) ≤ label_size) × (labels_reserved p ≡ 0)
 unfolding set_code
@@ -65,13 +40,10 @@ set_accepted p z =
 
 -- ---- Set LSA: what it leaves of the area
 module _ {p : List ℕ} {code : ℕ} (c : code ≡ set_code p) {before : List ℕ} where
-  pub set_refused : (code ≡ 0 → ⊥) → Sets p code before before
-  set_refused f = record { code = c; bytes = sym (ap (λ (b : Bool). cond b (set_labels p before) before) (ne_eqb code 0 f)) }
-
   pub set_stored : {o n : ℕ} {after : List ℕ} → code ≡ 0 → o ≡ label_offset p → n ≡ length p - 8 → after ≡ splice o (part 8 n p) before → Sets p code before after
   unfolding set_labels part
   set_stored {o} {n} {after} z eo en e =
-      let all : take n (label_data p) ≡ label_data p = take_all n (label_data p) (omega (arith, en, data_length p)) in
+      let all : take n (label_data p) ≡ label_data p = take_all n (label_data p) (omega (arith, en, length-drop 8 p)) in
       record {
         code = c;
         bytes = e ∙ ap₂ (λ (x : ℕ) (l : List ℕ). splice x l before) eo all ∙ sym (ap (λ (b : Bool). cond b (set_labels p before) before) (eq-eqb code 0 z));

@@ -1,21 +1,15 @@
 -- Laws of the checks of an address: a line is a range of one line, and the order of two checks. What holds where they refuse nothing. Assumes nothing.
-use mathlib.Core.Path.{◌≡◌, refl, ap, ◌∙◌}
+use mathlib.Core.Path.{◌≡◌, refl, sym, ap, ◌∙◌}
 use mathlib.Core.Bool.{Bool, true, false}
 use Prim.Native.Nat.{ℕ, ◌+◌, ◌≤◌, ◌<◌}
 use native.Mathlib.Numerals.{add-one}
 use native.Mathlib.Omega.{arith}
 use lib.Dec.{eqb, leb}
-use borrow.Author.Tests.{leb-true, le-leb, lt-leb}
+use borrow.Author.Tests.{leb-true}
+use Rattle.poison.specs.State.{capacity}
 use Rattle.wire.specs.Returns.{invalid_input, invalid_address, need}
 use Rattle.list_commands.specs.PoisonCommands.{aligned, line_of, line_code, range_code}
-use Rattle.wire.proofs.Laws.{need_fails, need_holds, need_zero}
-
--- the end of a range: past a device, and on it
-pub end_past : (lines k n : ℕ) → lines < k + n → invalid_address ≡ need (leb (k + n) lines) invalid_address 0
-end_past lines k n h = need_fails _ _ (lt-leb _ _ h)
-
-pub end_inside : (lines k n : ℕ) → k + n ≤ lines → 0 ≡ need (leb (k + n) lines) invalid_address 0
-end_inside lines k n h = need_holds _ _ (le-leb _ _ h)
+use Rattle.wire.proofs.Laws.{need_zero}
 
 -- two checks one after the other
 in_order : (t : Bool) (second : ℕ) → need (eqb (need t invalid_input 0) 0) (need t invalid_input 0) second ≡ need t invalid_input second
@@ -41,3 +35,10 @@ range_ends lines address n e =
 
 pub line_inside : (lines address : ℕ) → line_code lines address ≡ 0 → line_of address < lines
 line_inside lines address e = let h = range_ends lines address 1 (line_range lines address ∙ e) in omega arith
+
+-- so that on a device of not too many lines, where the checks answered 0, it is one of the largest device, and a number of 32 bits
+pub line_low : {lines code : ℕ} (address : ℕ) → lines ≤ capacity → code ≡ line_code lines address → code ≡ 0 → line_of address < capacity
+line_low {lines} address few h z = let k = line_inside lines address (sym h ∙ z) in omega arith
+
+pub range_low : {lines code : ℕ} (address n : ℕ) → lines ≤ capacity → code ≡ range_code lines address n → code ≡ 0 → line_of address + n ≤ capacity
+range_low {lines} address n few h z = let k = range_ends lines address n (sym h ∙ z) in omega arith

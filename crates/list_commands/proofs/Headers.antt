@@ -2,23 +2,27 @@
 use mathlib.Core.Path.{◌≡◌, refl}
 use mathlib.Core.Bool.{Bool, true, false, cond}
 use mathlib.Core.List.{List}
-use Prim.Native.Nat.{ℕ, ◌+◌, ◌*◌, ◌≤◌}
+use Prim.Native.Nat.{ℕ, ◌+◌, ◌*◌, ◌%◌, ◌≤◌}
 use native.Mathlib.Omega.{arith}
+use lib.Bits.{bit_or}
 use lib.Dec.{ltb}
+use mir.Val.{bool_byte}
 use lib.ListN.{length}
 use Rattle.wire.specs.Wire.{le, splice}
 use Rattle.commands.specs.Numbers.{poison_records}
 use Rattle.list_commands.specs.PoisonCommands.{list_flags, list_header}
 use Rattle.settings.proofs.Laws.{field_more}
 
-twice : (b : Bool) → cond b 1 0 * 2 ≡ cond b 2 0
-twice true = refl
-twice false = refl
-
 -- the flags from the two bits
-pub flags_of : (overflow : Bool) (n : ℕ) → cond overflow 1 0 * 2 + cond (ltb poison_records n) 1 0 ≡ list_flags overflow n
+bits : (more overflow : Bool) → bit_or (bool_byte more) (bool_byte overflow * 2 % 256) ≡ cond more 1 0 + cond overflow 2 0
+bits true true = refl
+bits true false = refl
+bits false true = refl
+bits false false = refl
+
+pub flags_of : (overflow : Bool) (n : ℕ) → bit_or (bool_byte (ltb poison_records n)) (bool_byte overflow * 2 % 256) ≡ list_flags overflow n
 unfolding list_flags
-flags_of overflow n = omega (arith, twice overflow)
+flags_of overflow n = bits (ltb poison_records n) overflow
 
 pub header_written : (overflow : Bool) (time n count : ℕ) (xs : List ℕ) → 32 ≤ length xs
     → splice 12 (le 20 0) (splice 10 (le 2 count) (splice 2 (le 8 (cond overflow time 0)) (splice 1 (le 1 0) (splice 0 (le 1 (list_flags overflow n)) xs))))

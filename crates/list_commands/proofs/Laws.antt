@@ -5,5 +5,5 @@
 pub use Rattle.list_commands.proofs.Addresses.{line_inside, range_ends}
 -- The poison commands by their cases: Inject Poison refused, with room, and with 256 entries; whether it adds an entry, and that it is then answered Success.
 pub use Rattle.list_commands.proofs.ListAnswers.{inject_refused, inject_taken, inject_full, taken_adds, refused_adds, adding_code}
--- A device of at most the most units has no more lines than the largest, its list is valid there, and its list's arrays on its lines.
-pub use Rattle.list_commands.proofs.ListAnswers.{device_lines, device_slots, device_any}
+-- A device of at most the most units has no more lines than the largest, and its list is valid on them and there.
+pub use Rattle.list_commands.proofs.ListAnswers.{device_lines, device_slots, device_list, device_any}

@@ -5,9 +5,10 @@ use mathlib.Core.List.{List}
 use Prim.Native.Nat.{ℕ, ◌+◌, ◌*◌, ◌≤◌, ◌<◌, min}
 use native.Mathlib.Omega.{arith}
 use native.Mathlib.Decide.{ℕ_discrete}
+use native.Mathlib.Nat.{min_comm}
 use lib.ListN.{length, take, length-append, length-take}
 use borrow.Author.Tests.{ne_eqb}
-use Rattle.wire.specs.Wire.{field, splice}
+use Rattle.wire.specs.Wire.{Read, field, splice}
 use Rattle.poison.specs.State.{PoisonState, capacity, entries_of, ValidList, ValidSlots, state_of}
 use Rattle.poison.specs.Inject.{injects, adds, after_inject, Injects}
 use Rattle.poison.specs.Clear.{after_clear, Clears}
@@ -106,83 +107,79 @@ module _ (s : PoisonState) (a n found count : ℕ) (isf : found ≡ length (shar
       ∙ ap (λ (x : ℕ). splice 0 (list_header s.overflow s.overflow_time (length (sharing a n s.entries)) x) (splice 32 rs xs)) c
       ∙ field_before 32 _ rs xs (sym (header_length _ _ _ _)) (omega arith)
 
--- ---- the answers, from what the list's functions ensure at the line of an address that was read from the payload
-module _ (lines : ℕ) (l : PoisonList) (p : List ℕ) (address : ℕ) (e : address ≡ field p 0 8) where
-  address_code : (code : ℕ) → code ≡ line_code lines address → code ≡ line_code lines (field p 0 8)
-  address_code code h = h ∙ ap (line_code lines) e
+-- ---- the answers, from what the list's functions ensure at the line of an address that was read from the payload and checked
+module _ {lines : ℕ} {l : PoisonList} {p : List ℕ} {address code : ℕ} (v : ValidList lines l) (e : Read p 0 8 address) (h : code ≡ line_code lines address) where
+  field_code : code ≡ line_code lines (field p 0 8)
+  field_code = h ∙ ap (line_code lines) e.value
 
-  module _ (v : ValidList lines l) where
-    pub inject_refusal : (code : ℕ) → code ≡ line_code lines address → (code ≡ 0 → ⊥)
-        → InjectDone lines l p code false l
-    inject_refusal code h f =
-        record {
-          done = list_done (inject_refused lines (state_of l) p code (address_code code h) f) refl (λ g. refl) v;
-          added = refused_adds lines (state_of l) p code (address_code code h) f;
-        }
+  pub inject_refusal : (code ≡ 0 → ⊥) → InjectDone lines l p code false l
+  inject_refusal f =
+      record {
+        done = list_done (inject_refused lines (state_of l) p code field_code f) refl (λ g. refl) v;
+        added = refused_adds lines (state_of l) p code field_code f;
+      }
 
-    pub clear_refusal : (time code : ℕ) → code ≡ line_code lines address → (code ≡ 0 → ⊥)
-        → ListDone (clear_poison lines (state_of l) p time) lines l code l
-    clear_refusal time code h f = list_done (clear_refused lines (state_of l) p code (address_code code h) f time) refl (λ g. refl) v
+  pub clear_refusal : (time : ℕ) → (code ≡ 0 → ⊥) → ListDone (clear_poison lines (state_of l) p time) lines l code l
+  clear_refusal time f = list_done (clear_refused lines (state_of l) p code field_code f time) refl (λ g. refl) v
 
-    module _ (z : line_code lines address ≡ 0) where
-      at_field : line_code lines (field p 0 8) ≡ 0
-      at_field = sym (address_code 0 (sym z))
+  module _ (z : code ≡ 0) where
+    at_field : line_code lines (field p 0 8) ≡ 0
+    at_field = sym field_code ∙ z
 
-      below : line_of (field p 0 8) < lines
-      below = line_inside lines (field p 0 8) at_field
+    below : line_of (field p 0 8) < lines
+    below = line_inside lines (field p 0 8) at_field
 
-      pub inject_done : (b more : Bool) (r : PoisonList) {code : ℕ} → Injects l (line_of address) b more r → code ≡ need b inject_limit 0 → InjectDone lines l p code more r
-      inject_done b more r {code} a h =
-          record {
-            done = subst (λ (c : ℕ). ListDone (inject_poison lines (state_of l) p) lines l c r) (sym h) (go b here);
-            added = here.added ∙ taken_adds lines (state_of l) p at_field;
-          }
-        where
-          here : Injects l (line_of (field p 0 8)) b more r
-          here = subst (λ (x : ℕ). Injects l (line_of x) b more r) e a
+    pub inject_done : {b more : Bool} {r : PoisonList} → Injects l (line_of address) b more r → InjectDone lines l p (need b inject_limit 0) more r
+    inject_done {b} {more} {r} a = record { done = go b here; added = here.added ∙ taken_adds lines (state_of l) p at_field }
+      where
+        here : Injects l (line_of (field p 0 8)) b more r
+        here = subst (λ (x : ℕ). Injects l (line_of x) b more r) e.value a
 
-          either : (c : Bool) → injects (state_of l) (line_of (field p 0 8)) ≡ c → state_of r ≡ cond c (after_inject (state_of l) (line_of (field p 0 8))) (state_of l)
-          either c d = here.state ∙ ap (λ (x : Bool). cond x (after_inject (state_of l) (line_of (field p 0 8))) (state_of l)) d
+        either : (c : Bool) → injects (state_of l) (line_of (field p 0 8)) ≡ c → state_of r ≡ cond c (after_inject (state_of l) (line_of (field p 0 8))) (state_of l)
+        either c d = here.state ∙ ap (λ (x : Bool). cond x (after_inject (state_of l) (line_of (field p 0 8))) (state_of l)) d
 
-          go : (c : Bool) → Injects l (line_of (field p 0 8)) c more r → ListDone (inject_poison lines (state_of l) p) lines l (need c inject_limit 0) r
-          go true i = list_done (inject_taken lines (state_of l) p at_field (sym i.done)) (either true (sym i.done)) (λ f. absurd (f.not_success refl)) (i.valid lines v below)
-          go false i = list_done (inject_full lines (state_of l) p at_field (sym i.done)) (either false (sym i.done)) (λ f. i.refused refl) (i.valid lines v below)
+        go : (c : Bool) → Injects l (line_of (field p 0 8)) c more r → ListDone (inject_poison lines (state_of l) p) lines l (need c inject_limit 0) r
+        go true i = list_done (inject_taken lines (state_of l) p at_field (sym i.done)) (either true (sym i.done)) (λ f. absurd (f.not_success refl)) (i.valid lines v below)
+        go false i = list_done (inject_full lines (state_of l) p at_field (sym i.done)) (either false (sym i.done)) (λ f. i.refused refl) (i.valid lines v below)
 
-      pub clear_success : (time : ℕ) (r : PoisonList) → Clears l (line_of address) time r
-          → ListDone (clear_poison lines (state_of l) p time) lines l success r
-      clear_success time r a =
-          let here = subst (λ (x : ℕ). Clears l (line_of x) time r) e a in
-          list_done (clear_taken lines (state_of l) p at_field time) here.state (λ f. absurd (f.not_success refl)) (here.valid lines v)
+    pub clear_success : {time : ℕ} {r : PoisonList} → Clears l (line_of address) time r → ListDone (clear_poison lines (state_of l) p time) lines l code r
+    clear_success {time} {r} a =
+        let here = subst (λ (x : ℕ). Clears l (line_of x) time r) e.value a in
+        list_done (clear_taken lines (state_of l) p at_field time ∙ ap (λ (x : ℕ). record { code = x; list = after_clear (state_of l) (line_of (field p 0 8)) time }) (sym z))
+        here.state (λ f. absurd (f.not_success z)) (here.valid lines v)
 
-  module _ (n : ℕ) (m : n ≡ field p 8 8) where
-    range_at : range_code lines address n ≡ range_code lines (field p 0 8) (field p 8 8)
-    range_at = ap₂ (range_code lines) e m
+module _ (lines : ℕ) {p : List ℕ} {address n code : ℕ} (e : Read p 0 8 address) (m : Read p 8 8 n) (h : code ≡ range_code lines address n) where
+  range_at : code ≡ range_code lines (field p 0 8) (field p 8 8)
+  range_at = h ∙ ap₂ (range_code lines) e.value m.value
 
-    pub get_refusal : (code : ℕ) {before : List ℕ} → code ≡ range_code lines address n → (code ≡ 0 → ⊥)
-        → Replied (get_poison_list lines (state_of l) p) (record { code = code; length = 0 }) before before
-    get_refusal code h f = no_bytes (get_refused lines (state_of l) p code (h ∙ range_at) f)
+  pub get_refusal : (s : PoisonState) {before : List ℕ} → (code ≡ 0 → ⊥) → Replied (get_poison_list lines s p) (record { code = code; length = 0 }) before before
+  get_refusal s f = no_bytes (get_refused lines s p code range_at f)
 
-    pub get_reply : (found count : ℕ) {before middle after : List ℕ} → range_code lines address n ≡ 0
-        → Wrote (entries_of l) (line_of address) n poison_records 32 found before middle → count ≡ min poison_records found
-        → after ≡ splice 0 (list_header l.overflow l.overflow_time found count) middle → mailbox_size ≤ length before
-        → Replied (get_poison_list lines (state_of l) p) (record { code = success; length = 32 + 16 * count }) before after
-    get_reply found count {before} {middle} {after} z w isc h room =
-        let s = state_of l in
-        let k = line_of (field p 0 8) in
-        let here : Wrote s.entries k (field p 8 8) poison_records 32 found before middle
-        = subst (λ (x : ℕ). Wrote s.entries k x poison_records 32 found before middle) m
-        (subst (λ (x : ℕ). Wrote s.entries (line_of x) n poison_records 32 found before middle) e w) in
-        bytes_written (get_taken lines s p (sym range_at ∙ z)) (reply_length s k (field p 8 8) found count here.number isc)
-        (h ∙ ap (splice 0 (list_header s.overflow s.overflow_time found count)) here.bytes ∙ reply_written s k (field p 8 8) found count here.number isc before room)
+  pub get_reply : (l : PoisonList) {found count : ℕ} {before middle after : List ℕ} → code ≡ 0
+      → Wrote (entries_of l) (line_of address) n poison_records 32 found before middle → count ≡ min found poison_records
+      → after ≡ splice 0 (list_header l.overflow l.overflow_time found count) middle → mailbox_size ≤ length before
+      → Replied (get_poison_list lines (state_of l) p) (record { code = success; length = 32 + 16 * count }) before after
+  get_reply l {found} {count} {before} {middle} {after} z w c written room =
+      let s = state_of l in
+      let k = line_of (field p 0 8) in
+      let here : Wrote s.entries k (field p 8 8) poison_records 32 found before middle
+      = subst (λ (x : ℕ). Wrote s.entries k x poison_records 32 found before middle) m.value
+      (subst (λ (x : ℕ). Wrote s.entries (line_of x) n poison_records 32 found before middle) e.value w) in
+      let isc : count ≡ min poison_records found = c ∙ min_comm found poison_records in
+      bytes_written (get_taken lines s p (sym range_at ∙ z)) (reply_length s k (field p 8 8) found count here.number isc)
+      (written ∙ ap (splice 0 (list_header s.overflow s.overflow_time found count)) here.bytes ∙ reply_written s k (field p 8 8) found count here.number isc before room)
 
 -- ---- on a device of so many units
--- a device of at most the most units has not too many lines; its list is valid on the largest device, and the list's arrays, lent, on those lines
+-- a device of at most the most units has not too many lines, and its list is valid on them and on the largest device
 module _ {units lines : ℕ} (few : units ≤ most_units) (e : lines ≡ unit_lines * units) where
   pub device_lines : lines ≤ capacity
   device_lines = omega (arith, few, e)
 
   pub device_slots : {count : ℕ} {starts lengths kinds : List ℕ} → ValidSlots (unit_lines * units) count starts lengths kinds → ValidSlots lines count starts lengths kinds
   device_slots = slots_more (omega (arith, e))
+
+  pub device_list : {l : PoisonList} → ValidList (unit_lines * units) l → ValidList lines l
+  device_list = valid_more (omega (arith, e))
 
   pub device_any : {l : PoisonList} → ValidList (unit_lines * units) l → ValidList capacity l
   device_any = valid_more (omega (arith, few))

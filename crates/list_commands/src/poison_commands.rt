@@ -1,34 +1,24 @@
 // The poison commands: the checks of an address, then the poison list's own functions (document 01, "Poison list"). No sum of an address and a
 // number of lines is made in 64 bits before it is known to fit: "Sums are of whole numbers."
-ghost use Rattle.std.specs.Prelude.{◌≡◌, Bool, cond, ℕ, ◌+◌, ◌≤◌, ◌<◌, eqb, leb, ltb, length};
+ghost use Rattle.std.specs.Prelude.{◌≡◌, cond, ◌+◌, ◌≤◌, ◌<◌, leb, length};
 ghost use Rattle.wire.specs.Wire.{splice};
-ghost use Rattle.poison.specs.State.{capacity, list_of, state_of, ValidSlots};
-ghost use Rattle.wire.specs.Returns.{invalid_input, invalid_address, inject_limit, need};
-ghost use Rattle.commands.specs.Numbers.{poison_records};
+ghost use Rattle.poison.specs.State.{capacity, state_of, ValidList};
+ghost use Rattle.wire.specs.Returns.{invalid_input, invalid_address, need};
 ghost use Rattle.list_commands.specs.PoisonCommands.{aligned, line_code, range_code};
 ghost use Rattle.list_commands.specs.PoisonCommands.{list_flags, list_header, get_poison_list, injection_record, clear_poison};
 ghost use Rattle.list_commands.specs.Relations.{ListDone, InjectDone};
 ghost use Rattle.wire.specs.Done.{Writes as Replied};
 
 use commands::admission;
-use poison::{clear, inject, range};
+use poison::inject::Injected;
+use poison::list::PoisonList;
 use wire::done::Done;
 use wire::returns;
 
-// What a command that changes the list gives: its return number, and what it leaves of the list beside the arrays, which are changed where they lie.
-#[derive(Clone, Copy)]
-pub struct ListChanged {
-    pub code: u16,
-    pub count: usize,
-    pub overflow: bool,
-    pub since: u64,
-}
-
-// What Inject Poison gives: its return number, the number of entries after it, and whether it added one.
-#[derive(Clone, Copy)]
+// What Inject Poison gives: its return number, and whether it added an entry.
+#[derive(Clone, Copy, Debug, PartialEq, Eq)]
 pub struct ListInjected {
     pub code: u16,
-    pub count: usize,
     pub added: bool,
 }
 
@@ -48,7 +38,7 @@ fn check_end(lines: u32, line: u64, n: u64) -> u16
     requires { line < 288230376151711744 }
     ensures { result ≡ need (leb (line + n) lines) invalid_address 0 }
 {
-    let all = lines as u64;
+    let all = u64::from(lines);
     if all < n {
         return returns::INVALID_ADDRESS;
     }
@@ -75,34 +65,30 @@ pub fn check_range(lines: u32, address: u64, n: u64) -> u16
     admission::first_refusal(aligned, inside)
 }
 
-// Inject Poison in the list; the flag and its time stay as they are, whatever they are.
-pub fn inject(
-    starts: &mut [u32; 256],
-    lengths: &mut [u32; 256],
-    kinds: &mut [u8; 256],
-    count: usize,
-    lines: u32,
-    payload: &[u8],
-) -> ListInjected
-    requires { ValidSlots lines count starts.old lengths.old kinds.old × (lines ≤ capacity) × (length payload.now ≡ 8) }
-    ensures { (overflow : Bool) → (since : ℕ) → InjectDone lines (list_of starts.old lengths.old kinds.old count overflow since) payload.now result.code result.added (list_of starts.new lengths.new kinds.new result.count overflow since) }
+// Inject Poison in the list.
+pub fn inject(list: &mut PoisonList, lines: u32, payload: &[u8]) -> ListInjected
+    requires { ValidList lines list.old × (lines ≤ capacity) × (length payload.now ≡ 8) }
+    ensures { InjectDone lines list.old payload.now result.code result.added list.new }
 {
     let address = wire::get(payload, 0, 8);
     let code = check_line(lines, address);
     if code != returns::SUCCESS {
-        return ListInjected {
-            code,
-            count,
-            added: false,
-        };
+        return ListInjected { code, added: false };
     }
     let line = (address / 64) as u32;
-    let injected = inject::inject_in(starts, lengths, kinds, count, line);
-    let code = inject_code(injected.done);
-    ListInjected {
-        code,
-        count: injected.count,
-        added: injected.added,
+    match list.inject(line) {
+        Injected::Added => ListInjected {
+            code: returns::SUCCESS,
+            added: true,
+        },
+        Injected::Covered => ListInjected {
+            code: returns::SUCCESS,
+            added: false,
+        },
+        Injected::Full => ListInjected {
+            code: returns::INJECT_LIMIT,
+            added: false,
+        },
     }
 }
 
@@ -117,84 +103,25 @@ pub fn injection_record(address: u64) -> [u8; 128]
     record
 }
 
-// The return number of an injection past the checks of its line.
-fn inject_code(done: bool) -> u16
-    ensures { result ≡ need done inject_limit 0 }
-{
-    if done {
-        returns::SUCCESS
-    } else {
-        returns::INJECT_LIMIT
-    }
-}
-
 // Clear Poison, at a device time. The payload's data is the caller's to write.
-pub fn clear(
-    starts: &mut [u32; 256],
-    lengths: &mut [u32; 256],
-    kinds: &mut [u8; 256],
-    count: usize,
-    overflow: bool,
-    since: u64,
-    lines: u32,
-    payload: &[u8],
-    time: u64,
-) -> ListChanged
-    requires { ValidSlots lines count starts.old lengths.old kinds.old × (lines ≤ capacity) × (length payload.now ≡ 72) }
-    ensures { ListDone (clear_poison lines (state_of (list_of starts.old lengths.old kinds.old count overflow since)) payload.now time) lines (list_of starts.old lengths.old kinds.old count overflow since) result.code (list_of starts.new lengths.new kinds.new result.count result.overflow result.since) }
+pub fn clear(list: &mut PoisonList, lines: u32, payload: &[u8], time: u64) -> u16
+    requires { ValidList lines list.old × (lines ≤ capacity) × (length payload.now ≡ 72) }
+    ensures { ListDone (clear_poison lines (state_of list.old) payload.now time) lines list.old result list.new }
 {
     let address = wire::get(payload, 0, 8);
     let code = check_line(lines, address);
-    if code != returns::SUCCESS {
-        return ListChanged {
-            code,
-            count,
-            overflow,
-            since,
-        };
+    if code == returns::SUCCESS {
+        let line = (address / 64) as u32;
+        list.clear(line, time);
     }
-    let line = (address / 64) as u32;
-    let cleared = clear::clear_in(starts, lengths, kinds, count, overflow, since, line, time);
-    ListChanged {
-        code: returns::SUCCESS,
-        count: cleared.count,
-        overflow: cleared.overflow,
-        since: cleared.since,
-    }
+    code
 }
 
-// The flags of Get Poison List's reply.
+// The flags of Get Poison List's reply, where n entries share a line with the range.
 fn flags(overflow: bool, n: usize) -> u8
     ensures { result ≡ list_flags overflow n }
 {
-    more(n) | (bit(overflow) << 1)
-}
-
-// 1 if more than 126 entries share a line with the range, else 0.
-fn more(n: usize) -> u8
-    ensures { (result ≡ cond (ltb poison_records n) 1 0) × (result < 2) }
-{
-    if 126 < n { 1 } else { 0 }
-}
-
-// 1 for true, 0 for false.
-fn bit(b: bool) -> u8
-    ensures { (result ≡ cond b 1 0) × (result < 2) }
-{
-    if b { 1 } else { 0 }
-}
-
-// The 32 bytes before the records of Get Poison List's reply, where n entries share a line with the range.
-fn put_header(reply: &mut [u8], overflow: bool, time: u64, n: usize, count: usize)
-    requires { (32 ≤ length reply.old) × (count < 65536) }
-    ensures { reply.new ≡ splice 0 (list_header overflow time n count) reply.old }
-{
-    let since = time_shown(overflow, time);
-    wire::put(reply, 0, 1, flags(overflow, n) as u64);
-    wire::put(reply, 1, 1, 0);
-    wire::put(reply, 2, 8, since);
-    wire::put(reply, 10, 2, count as u64);
-    wire::put(reply, 12, 20, 0);
+    u8::from(126 < n) | (u8::from(overflow) << 1)
 }
 
 // The overflow time, 0 while the flag is clear.
@@ -204,20 +131,23 @@ fn time_shown(overflow: bool, time: u64) -> u64
     if overflow { time } else { 0 }
 }
 
+// The 32 bytes before the records of Get Poison List's reply, where n entries share a line with the range.
+fn put_header(reply: &mut [u8], list: &PoisonList, n: usize, count: usize)
+    requires { (32 ≤ length reply.old) × (count < 65536) }
+    ensures { reply.new ≡ splice 0 (list_header list.now.overflow list.now.overflow_time n count) reply.old }
+{
+    let overflow = list.overflow;
+    wire::put(reply, 0, 1, u64::from(flags(overflow, n)));
+    wire::put(reply, 1, 1, 0);
+    wire::put(reply, 2, 8, time_shown(overflow, list.overflow_time));
+    wire::put(reply, 10, 2, count as u64);
+    wire::put(reply, 12, 20, 0);
+}
+
 // Get Poison List. The records are written first: that tells how many entries share a line with the range, which the header says.
-pub fn get<'a>(
-    starts: &'a [u32; 256],
-    lengths: &'a [u32; 256],
-    kinds: &'a [u8; 256],
-    count: usize,
-    overflow: bool,
-    since: u64,
-    lines: u32,
-    payload: &[u8],
-    reply: &mut [u8],
-) -> Done
-    requires { ValidSlots lines count starts.now lengths.now kinds.now × (lines ≤ capacity) × (length payload.now ≡ 16) × (2048 ≤ length reply.old) }
-    ensures { Replied (get_poison_list lines (state_of (list_of starts.now lengths.now kinds.now count overflow since)) payload.now) result reply.old reply.new }
+pub fn get(list: &PoisonList, lines: u32, payload: &[u8], reply: &mut [u8]) -> Done
+    requires { ValidList lines list.now × (lines ≤ capacity) × (length payload.now ≡ 16) × (2048 ≤ length reply.old) }
+    ensures { Replied (get_poison_list lines (state_of list.now) payload.now) result reply.old reply.new }
 {
     let address = wire::get(payload, 0, 8);
     let n = wire::get(payload, 8, 8);
@@ -226,11 +156,9 @@ pub fn get<'a>(
         return Done { code, length: 0 };
     }
     let from = (address / 64) as u32;
-    let found = range::put_records(
-        starts, lengths, kinds, count, from, n as u32, 126, reply, 32,
-    );
-    let number = wire::least(126, found);
-    put_header(reply, overflow, since, found, number);
+    let found = list.put_records(from, n as u32, 126, reply, 32);
+    let number = found.min(126);
+    put_header(reply, list, found, number);
     Done {
         code: returns::SUCCESS,
         length: 32 + 16 * number,

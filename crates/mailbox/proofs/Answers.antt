@@ -17,7 +17,7 @@ use Rattle.settings.specs.declared.clock.Clock.{Clock}
 use Rattle.settings.specs.declared.media.MediaState.{MediaState}
 use Rattle.mailbox.specs.declared.device.Device.{Device}
 use Rattle.mailbox.specs.declared.device.Answer.{Answer}
-use Rattle.settings.specs.declared.vector.Vector.TheVariants.{None}
+use Rattle.std.specs.Prelude.{None}
 use Rattle.commands.specs.Numbers.{unit_lines}
 use Rattle.mailbox.specs.State.{DeviceState, ValidDevice, state_of}
 use Rattle.settings.specs.Reply.{Reply}

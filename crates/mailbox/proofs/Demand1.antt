@@ -22,7 +22,7 @@ use Rattle.mailbox.specs.declared.device.Made.{Made}
 use Rattle.mailbox.specs.declared.device_calls.EventAnswer.{EventAnswer}
 use Rattle.mailbox.specs.declared.device_calls.MediaAnswer.{MediaAnswer}
 use Rattle.mailbox.specs.declared.device_calls.LineAnswer.{LineAnswer}
-use Rattle.settings.specs.declared.vector.Vector.TheVariants.{None}
+use Rattle.std.specs.Prelude.{None}
 use Rattle.settings.specs.Vector.{no_vector, raised}
 use Rattle.mailbox.specs.Relations.{Answered, Makes, EventDone, MediaDone, LineDone}
 use Rattle.wire.specs.Returns.{invalid_input, started, Refused}

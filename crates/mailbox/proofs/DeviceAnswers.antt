@@ -1,12 +1,12 @@
 -- What make and the device-side calls ensure of their answers, by their cases. Assumes nothing.
 use mathlib.Core.Path.{◌≡◌, refl, sym, ap, ◌∙◌, subst}
-use mathlib.Core.Bool.{Bool, true, false, ◌||◌}
+use mathlib.Core.Bool.{Bool, true, false, ◌&&◌, ◌||◌}
 use mathlib.Core.List.{List}
 use Prim.Native.Nat.{ℕ, ◌+◌, ◌≤◌, ◌<◌}
 use native.Mathlib.Omega.{arith}
 use lib.Dec.{leb, ltb, eqb}
 use lib.ListN.{length, get_or, set}
-use borrow.Author.Tests.{ne_eqb, leb-true, eqb-true, le-leb, lt-leb, lt-ltb, le-ltb}
+use borrow.Author.Tests.{ne_eqb, leb-true, eqb-true, lt-ltb, le-ltb}
 use Rattle.poison.specs.State as P
 use Rattle.poison.specs.Report as R
 use Rattle.poison.specs.LineTest.{line_test as list_test}
@@ -52,21 +52,18 @@ makes : {o : MakeOutcome} {code : ℕ} {s : DeviceState} {d : Device} → o ≡ 
     → Makes o (record { code = code; device = d })
 makes {o} {code} {s} {d} e n v = subst (λ (x : MakeOutcome). Makes x (record { code = code; device = d })) (sym e) (record { code = refl; next = n; valid = v })
 
+-- whether a total is of 1 to 1,023 units
+abbrev units_test : ℕ → Bool
+units_test units = leb 1 units && leb units most_units
+
 module _ (volatile persistent : ℕ) {d : Device} where
-  -- a total outside 1 to 1,023
-  pub make_none : volatile + persistent < 1 → state_of d ≡ new_device 1 0 → ValidDevice d → Makes (make volatile persistent) (record { code = invalid_input; device = d })
+  pub make_refused : units_test (volatile + persistent) ≡ false → state_of d ≡ new_device 1 0 → ValidDevice d → Makes (make volatile persistent) (record { code = invalid_input; device = d })
   unfolding make
-  make_none h n v = makes (simp (lt-leb _ _ h)) n v
+  make_refused e n v = makes (simp e) n v
 
-  pub make_many : most_units < volatile + persistent → state_of d ≡ new_device 1 0 → ValidDevice d
-      → Makes (make volatile persistent) (record { code = invalid_input; device = d })
+  pub make_taken : units_test (volatile + persistent) ≡ true → state_of d ≡ new_device volatile persistent → ValidDevice d → Makes (make volatile persistent) (record { code = success; device = d })
   unfolding make
-  make_many h n v = makes (simp (le-leb 1 (volatile + persistent) (omega arith), lt-leb _ _ h)) n v
-
-  pub make_taken : 1 ≤ volatile + persistent → volatile + persistent ≤ most_units → state_of d ≡ new_device volatile persistent → ValidDevice d
-      → Makes (make volatile persistent) (record { code = success; device = d })
-  unfolding make
-  make_taken h k n v = makes (simp (le-leb _ _ h, le-leb _ _ k)) n v
+  make_taken e n v = makes (simp e) n v
 
 -- ---- event report
 module _ (d : Device) (time log : ℕ) (bytes : List ℕ) (v : ValidDevice d) where

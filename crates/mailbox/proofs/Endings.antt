@@ -1,18 +1,20 @@
--- The end of a Sanitize on a device of the code (document 02, W-207): what `Device::ended` ensures, by its cases, and what a call that carries a time ensures from what it ensures of the device that it
+-- The end of a Sanitize on a device of the code (document 02, W-207): what `Device::end_due` ensures, by its cases, and what a call that carries a time ensures from what it ensures of the device that it
 -- finds. Assumes nothing.
 use mathlib.Core.Path.{◌≡◌, refl, sym, ap, ap₂, ◌∙◌, subst}
-use mathlib.Core.Bool.{true, false, true≢false}
+use mathlib.Core.Bool.{Bool, true, false, true≢false}
 use mathlib.Core.List.{List, map}
 use Prim.Native.Nat.{ℕ}
 use Rattle.events.specs.Emptied.{emptied, EmptiesAll}
-use Rattle.events.specs.Log.{LogState, log_at}
+use lib.ListN.{length, length-map}
+use Rattle.events.specs.Log.{LogState, log_at, states_of}
+use Rattle.events.specs.Log.{state_of as log_state}
 use Rattle.events.proofs.Laws.{emptied_at}
 use Rattle.events.specs.declared.log.Log.{Log}
 use Rattle.settings.specs.Media.{enabled, due}
 use Rattle.settings.specs.declared.media.MediaState.{MediaState}
 use Rattle.mailbox.specs.declared.device.Device.{Device}
 use Rattle.mailbox.specs.State.{DeviceState, ValidDevice, state_of, with_logs, with_media}
-use Rattle.mailbox.specs.Ending.{found, ended, Ends, AfterEnding}
+use Rattle.mailbox.specs.Ending.{logs_left, found, ended, Ends, AfterEnding}
 use Rattle.mailbox.specs.declared.device.Answer.{Answer}
 use Rattle.mailbox.specs.declared.device_calls.EventAnswer.{EventAnswer}
 use Rattle.mailbox.specs.declared.device_calls.MediaAnswer.{MediaAnswer}
@@ -32,6 +34,15 @@ ended_due d time e = ap (found d) e
 -- each log of it, also past the fifth: no record, no overflow count and times; the next handle as it was
 pub end_empties : (d : DeviceState) (time : ℕ) → due d.media time ≡ true → (k : ℕ) → log_at (ended d time).logs k ≡ emptied (log_at d.logs k)
 end_empties d time e k = ap (λ (x : DeviceState). log_at x.logs k) (ended_due d time e) ∙ emptied_at d.logs k
+
+-- as many logs as before
+left_length : (due : Bool) (ls : List LogState) → length (logs_left due ls) ≡ length ls
+left_length true ls = length-map ls emptied
+left_length false ls = refl
+
+pub found_logs : {d e : Device} {time : ℕ} → Ends d time e → length e.logs ≡ length d.logs
+found_logs {d} {e} {time} ends =
+    sym (length-map e.logs log_state) ∙ ap (λ (s : DeviceState). length s.logs) ends.state ∙ left_length (due d.media time) (states_of d.logs) ∙ length-map d.logs log_state
 
 module _ (d : Device) (time : ℕ) (v : ValidDevice d) where
   pub ends_none : due d.media time ≡ false → Ends d time d

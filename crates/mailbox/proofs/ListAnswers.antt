@@ -6,7 +6,7 @@ use Rattle.poison.specs.State.{ValidList, state_of}
 use Rattle.poison.specs.declared.list.PoisonList.{PoisonList}
 use Rattle.wire.specs.declared.done.Done.{Done}
 use Rattle.mailbox.specs.declared.device.Device.{Device}
-use Rattle.settings.specs.declared.vector.Vector.TheVariants.{None}
+use Rattle.std.specs.Prelude.{None}
 use Rattle.commands.specs.Numbers.{unit_lines}
 use Rattle.mailbox.specs.State as D
 use Rattle.mailbox.specs.State.{ValidDevice}

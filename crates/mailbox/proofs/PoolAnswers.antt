@@ -43,22 +43,22 @@ module _ {volatile persistent : ℕ} {clock : Clock} {policy : List ℕ} {log : 
   pub pool_refused : {code : ℕ} → code ≡ checked Pool op (length p) (length before) → (code ≡ 0 → ⊥) → PoolIn volatile persistent clock policy log list op p time (record { code = code; length = 0 }) before before
   pool_refused e f = record { replied = λ logs media held. no_bytes (pool_refuses _ op p time _ e f) }
 
-  module _ (admitted : checked Pool op (length p) (length before) ≡ 0) {r : Done} {after : List ℕ} where
+  module _ {code : ℕ} (checks : code ≡ checked Pool op (length p) (length before)) (passed : code ≡ 0) {r : Done} {after : List ℕ} where
     -- Get Event Records
     pub pool_log : op ≡ 0x0100 → LogTold log p r before after → PoolIn volatile persistent clock policy log list op p time r before after
     unfolding telling
-    pool_log o a = record { replied = λ logs media held. replied_at _ op p time (length before) admitted 0x0100 o refl (a.replied logs held) }
+    pool_log o a = record { replied = λ logs media held. replied_at _ op p time (length before) (sym checks ∙ passed) 0x0100 o refl (a.replied logs held) }
 
     -- Get Poison List
     pub pool_list : {lines : ℕ} → op ≡ 0x4300 → lines ≡ unit_lines * (volatile + persistent) → Replied (get_poison_list lines (P.state_of list) p) r before after
         → PoolIn volatile persistent clock policy log list op p time r before after
     unfolding telling
     pool_list o e a =
-        record { replied = λ logs media held. replied_at _ op p time (length before) admitted 0x4300 o (ap (λ (n : ℕ). get_poison_list n (P.state_of list) p) (sym e)) a }
+        record { replied = λ logs media held. replied_at _ op p time (length before) (sym checks ∙ passed) 0x4300 o (ap (λ (n : ℕ). get_poison_list n (P.state_of list) p) (sym e)) a }
 
     -- the others
     pub pool_told : Told Pool volatile persistent clock policy op p time r before after → PoolIn volatile persistent clock policy log list op p time r before after
-    pool_told a = record { replied = λ logs media held. replied_at _ op p time (length before) admitted op refl refl (a.replied logs list media) }
+    pool_told a = record { replied = λ logs media held. replied_at _ op p time (length before) (sym checks ∙ passed) op refl refl (a.replied logs list media) }
 
 -- ---- at a device: where the log was taken from the place that the payload names
 pub pool_parts_answered : (h : Device) {k op : ℕ} {p : List ℕ} {time : ℕ} {r : Done} {before after : List ℕ} → k ≡ log_named p

@@ -4,7 +4,7 @@ ghost use Rattle.mailbox.specs.LineStatus.{status_of, status_number, status_type
 
 use poison::line_test::LineTest;
 
-#[derive(Clone, Copy)]
+#[derive(Clone, Copy, Debug, PartialEq, Eq, Hash)]
 pub enum LineStatus {
     Clean,
     Damaged(u8),
@@ -13,13 +13,15 @@ pub enum LineStatus {
 }
 
 // The list's answer as the device's.
-pub(crate) fn status_of(answer: LineTest) -> LineStatus
-    ensures { result ≡ status_of answer }
-{
-    match answer {
-        LineTest::Clean => LineStatus::Clean,
-        LineTest::Damaged(kind) => LineStatus::Damaged(kind),
-        LineTest::Unknown => LineStatus::Unknown,
+impl From<LineTest> for LineStatus {
+    ghost from_gives = { λ answer status. status ≡ status_of answer };
+
+    fn from(answer: LineTest) -> LineStatus {
+        match answer {
+            LineTest::Clean => LineStatus::Clean,
+            LineTest::Damaged(kind) => LineStatus::Damaged(kind),
+            LineTest::Unknown => LineStatus::Unknown,
+        }
     }
 }
 
@@ -41,7 +43,7 @@ pub fn status_type(answer: LineStatus) -> u64
 {
     match answer {
         LineStatus::Clean => 0,
-        LineStatus::Damaged(kind) => kind as u64,
+        LineStatus::Damaged(kind) => u64::from(kind),
         LineStatus::Unknown => 0,
         LineStatus::Disabled => 0,
     }

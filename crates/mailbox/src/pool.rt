@@ -1,7 +1,7 @@
 // The second mailbox, the pool manager's (document 02, W-208): it may look at the same logs and list, is lent no label area, changes nothing and ends no Sanitize. Its commands go through the functions that
 // tell what a part holds, as the first mailbox's do.
 ghost use Rattle.std.specs.Prelude.{◌≡◌, ◌+◌, ◌*◌, ◌≤◌, length};
-ghost use Rattle.poison.specs.State.{list_of, ValidSlots};
+ghost use Rattle.poison.specs.State.{ValidList};
 ghost use Rattle.events.specs.Log.{ValidLog};
 ghost use Rattle.settings.specs.Relations.{Replied};
 ghost use Rattle.commands.specs.Numbers.{unit_lines, most_units};
@@ -15,20 +15,16 @@ use commands::admission;
 use commands::mailboxes::Mailbox;
 use events::log::Log;
 use list_commands::poison_commands;
+use poison::list::PoisonList;
 use settings::clock::Clock;
 use wire::done::Done;
 use wire::returns;
 
-// A command of the pool manager's mailbox over the parts of a device that its commands see: the list, whose arrays are lent to be read, the log that the payload names (`log_named`), the clock and the
-// policy. The answer is the whole answer: nothing of the device changes.
-pub fn pool_command_in<'a>(
-    starts: &'a [u32; 256],
-    lengths: &'a [u32; 256],
-    kinds: &'a [u8; 256],
-    count: usize,
-    overflow: bool,
-    since: u64,
-    log: Log,
+// A command of the pool manager's mailbox over the parts of a device that its commands see: the list and the log that the payload names (`log_named`), which it reads where they lie, the
+// clock and the policy. The answer is the whole answer: nothing of the device changes.
+pub fn pool_command_in(
+    list: &PoisonList,
+    log: &Log,
     clock: Clock,
     policy: [u8; 5],
     volatile: u16,
@@ -38,8 +34,8 @@ pub fn pool_command_in<'a>(
     time: u64,
     reply: &mut [u8],
 ) -> Done
-    requires { (volatile + persistent ≤ most_units) × ValidSlots (unit_lines * (volatile + persistent)) count starts.now lengths.now kinds.now × ValidLog log }
-    ensures { PoolIn volatile persistent clock policy log (list_of starts.now lengths.now kinds.now count overflow since) opcode payload.now time result reply.old reply.new }
+    requires { (volatile + persistent ≤ most_units) × ValidList (unit_lines * (volatile + persistent)) list.now × ValidLog log.now }
+    ensures { PoolIn volatile persistent clock policy log.now list.now opcode payload.now time result reply.old reply.new }
 {
     let code = admission::admitted(Mailbox::Pool, opcode, payload.len(), reply.len());
     if code != returns::SUCCESS {
@@ -50,9 +46,7 @@ pub fn pool_command_in<'a>(
     }
     if opcode == 0x4300 {
         let lines = by_parts::lines_of(volatile, persistent);
-        return poison_commands::get(
-            starts, lengths, kinds, count, overflow, since, lines, payload, reply,
-        );
+        return poison_commands::get(list, lines, payload, reply);
     }
     telling::tell(
         Mailbox::Pool,
@@ -74,20 +68,14 @@ impl Device {
         ensures { Replied (pool_answer (state_of self) opcode payload.now time (length reply.old)) result reply.old reply.new }
     {
         let k = by_parts::log_named(payload);
-        let log = self.logs[k];
+        // Copied out, as for the line test (`device_calls`); and of a device by value a log is not lent.
         let list = self.poison;
-        let clock = self.clock;
-        let policy = self.policy;
+        let log = self.logs[k];
         pool_command_in(
-            &list.starts,
-            &list.lengths,
-            &list.kinds,
-            list.count,
-            list.overflow,
-            list.overflow_time,
-            log,
-            clock,
-            policy,
+            &list,
+            &log,
+            self.clock,
+            self.policy,
             self.volatile,
             self.persistent,
             opcode,

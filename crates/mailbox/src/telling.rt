@@ -15,9 +15,9 @@ use wire::done::Done;
 use wire::returns;
 
 // Get Event Records, over the log that the payload names.
-pub(crate) fn tell_log(log: Log, payload: &[u8], reply: &mut [u8]) -> Done
-    requires { ValidLog log × (length payload.now ≡ 1) × (2048 ≤ length reply.old) }
-    ensures { LogTold log payload.now result reply.old reply.new }
+pub(crate) fn tell_log(log: &Log, payload: &[u8], reply: &mut [u8]) -> Done
+    requires { ValidLog log.now × (length payload.now ≡ 1) × (2048 ≤ length reply.old) }
+    ensures { LogTold log.now payload.now result reply.old reply.new }
 {
     let code = get::get_code(payload[0]);
     if code != returns::SUCCESS {

@@ -66,6 +66,9 @@ pub record Searched (l : PoisonList) (k at : ℕ) : Type 0 where
   pub few : l.count ≤ slots
   pub is : at ≡ cover_at (runs_in l.count l.starts l.lengths) k
 
+pub searched : (l : PoisonList) (k at : ℕ) → Sized l → l.count ≤ slots → at ≡ cover_at (runs_in l.count l.starts l.lengths) k → Searched l k at
+searched l k at sized few is = record { sized = sized; few = few; is = is }
+
 module _ {l : PoisonList} {k at : ℕ} (s : Searched l k at) where
   pub place_over : at ≡ cover_at (shapes (entries_of l)) k
   place_over = rw (shapes_of l s.sized) s.is

@@ -13,14 +13,14 @@ use lib.Seq.{set_split, take_at, drop_at}
 use Rattle.poison.specs.declared.list.PoisonList.{PoisonList}
 use Rattle.poison.specs.Runs.{Run, run, end, in_run, run_if_any, before, after, before_in, after_in, keeps, slots, some_run}
 use Rattle.poison.specs.State.{Entry, PoisonState, shape, entry, shapes, entries_of, state_of}
-use Rattle.poison.proofs.ListChanges.{with_entries, InsertedAt, Flagged}
-use Rattle.poison.proofs.ListChanges.{RemovedAt, ReplacedAt}
-use Rattle.poison.specs.Report.{with_drop}
+use Rattle.poison.proofs.ListChanges.{with_entries, ReplacedAt, inserted_at, removed_at, replaced_by, replaced_at, shortened, shortened_sized, shortened_at, flagged}
+use Rattle.poison.specs.Moved.{EntryAdded, EntryRemoved}
+use Rattle.poison.specs.Report.{with_drop, dropped_at}
 use Rattle.poison.specs.Search.{cover_at}
 use Rattle.poison.specs.Clear.{after_clear, cut_entries, Clears}
 use Rattle.poison.proofs.Moves.{nought}
 use Rattle.poison.proofs.Overflow.{drop_none, drop_some}
-use Rattle.poison.proofs.Covering.{no_run, cover_bounds, Searched, place_over, place_held}
+use Rattle.poison.proofs.Covering.{no_run, cover_bounds, Searched, place_over}
 use Rattle.poison.proofs.Validity.{valid_clear}
 use Rattle.poison.proofs.Views.{length_entries, entry_at}
 
@@ -186,57 +186,80 @@ module _ (s : PoisonState) (k time at : ℕ) (is : at ≡ cover_at (shapes s.ent
           rw (← append_assoc (take at s.entries) (F ∷ []) rest)
           (rw (take_at head rest (at + 1) len, drop_at head rest (at + 1) len) (append_assoc (take at s.entries) (F ∷ []) (B ∷ rest)))
 
--- ---- a list in memory, with the entry over a line found at place `at`: what the code does in each case is the clear
-module _ {l : PoisonList} {k at : ℕ} (o : Searched l k at) where
+-- ---- a list in memory, by what the search answers: what the code does in each case is the clear
+-- none found: the list stays
+pub stays : {l : PoisonList} {k time : ℕ} → Searched l k l.count → Clears l k time l
+stays {l} {k} {time} o =
+    record { state = clear_none (state_of l) k time (omega (arith, place_over o, length_entries l o.sized o.few)); valid = λ m v. v }
+
+-- the entry over line k: at place `at`, of `lines` lines from `start` on
+pub record Over (l : PoisonList) (k at start lines kind : ℕ) : Type 0 where
+  pub searched : Searched l k at
+  pub inside : at < l.count
+  pub start_is : start ≡ get_or l.starts at 0
+  pub lines_is : lines ≡ get_or l.lengths at 0
+  pub kind_is : kind ≡ get_or l.kinds at 0
+
+module _ {l : PoisonList} {k at start lines kind : ℕ} (o : Over l k at start lines kind) where
   abbrev found : Entry
-  found = entry (get_or l.kinds at 0) (run (get_or l.starts at 0) (get_or l.lengths at 0))
+  found = entry kind (run start lines)
 
   abbrev head : ℕ
-  head = k - get_or l.starts at 0
+  head = k - start
 
   abbrev tail : ℕ
-  tail = get_or l.lengths at 0 - (k - get_or l.starts at 0) - 1
+  tail = lines - (k - start) - 1
 
   held : length (entries_of l) ≡ l.count
-  held = length_entries l o.sized o.few
+  held = length_entries l o.searched.sized o.searched.few
 
-  -- none found: the list stays
-  pub stays : {time : ℕ} → l.count ≤ at → Clears l k time l
-  stays {time} h =
-      let p = place_over o in
-      let u = place_held o in
-      record { state = clear_none (state_of l) k time (omega (arith, held)); valid = λ m v. v }
+  within : at < length (entries_of l)
+  within = omega (arith, held, o.inside)
 
-  module _ (inn : at < l.count) where
-    within : at < length (entries_of l)
-    within = omega (arith, held)
+  got_is : get_or (entries_of l) at nought ≡ found
+  got_is = rw (o.start_is, o.lines_is, o.kind_is) (entry_at l o.searched.sized at o.inside)
 
-    got_is : get_or (entries_of l) at nought ≡ found
-    got_is = entry_at l o.sized at inn
+  pub found_bounds : (start ≤ k) × (k < start + lines)
+  found_bounds = entry_bounds (state_of l) k 0 at (place_over o.searched) within found got_is
 
-    pub found_bounds : (get_or l.starts at 0 ≤ k) × (k < get_or l.starts at 0 + get_or l.lengths at 0)
-    found_bounds = entry_bounds (state_of l) k 0 at (place_over o) within found got_is
+  -- the part before, in its place
+  abbrev short : PoisonList
+  short = shortened l at head
 
-    module _ {time : ℕ} where
-      cleared : (r : PoisonList) → r.count ≤ slots → state_of r ≡ after_clear (state_of l) k time → Clears l k time r
-      cleared r n e = record { state = e; valid = λ m v. valid_clear l r n m v k time e }
+  short_is : ReplacedAt l at start head kind short
+  short_is = rw (o.start_is, o.kind_is) (shortened_at l o.searched.sized at _ o.inside)
 
-      pub removes : {r : PoisonList} → head ≡ 0 → tail ≡ 0 → RemovedAt l at r → Clears l k time r
-      removes {r} f b i = cleared r (omega (arith, i.count, o.few)) (i.state ∙ clear_whole (state_of l) k time at (place_over o) within found got_is f b)
+  module _ {time : ℕ} where
+    cleared : (r : PoisonList) → r.count ≤ slots → state_of r ≡ after_clear (state_of l) k time → Clears l k time r
+    cleared r n e = record { state = e; valid = λ m v. valid_clear l r n m v k time e }
 
-      pub keeps_after : {r : PoisonList} → head ≡ 0 → (tail ≡ 0 → ⊥) → ReplacedAt l at (k + 1) tail (get_or l.kinds at 0) r → Clears l k time r
-      keeps_after {r} f b i = cleared r (omega (arith, i.count, o.few)) (i.state ∙ clear_front (state_of l) k time at (place_over o) within found got_is f b)
+    -- nothing is left of it: it is taken away
+    pub removes : {r : PoisonList} → head ≡ 0 → tail ≡ 0 → EntryRemoved l at r → Clears l k time r
+    removes {r} f b e =
+        let i = removed_at l o.searched.sized o.inside o.searched.few e in
+        cleared r (omega (arith, i.count, o.searched.few)) (i.state ∙ clear_whole (state_of l) k time at (place_over o.searched) within found got_is f b)
 
-      module _ {q : PoisonList} (f : head ≡ 0 → ⊥) (i : ReplacedAt l at (get_or l.starts at 0) head (get_or l.kinds at 0) q) where
-        pub keeps_before : tail ≡ 0 → Clears l k time q
-        keeps_before b = cleared q (omega (arith, i.count, o.few)) (i.state ∙ clear_back (state_of l) k time at (place_over o) within found got_is f b)
+    -- the part after is left
+    pub keeps_after : head ≡ 0 → (tail ≡ 0 → ⊥) → Clears l k time (replaced_by l at (k + 1) tail)
+    keeps_after f b =
+        let i : ReplacedAt l at (k + 1) tail kind (replaced_by l at (k + 1) tail) = rw o.kind_is (replaced_at l o.searched.sized at (k + 1) tail o.inside) in
+        cleared (replaced_by l at (k + 1) tail) o.searched.few (i.state ∙ clear_front (state_of l) k time at (place_over o.searched) within found got_is f b)
 
-        pub drops_after : {r : PoisonList} → (tail ≡ 0 → ⊥) → l.count ≡ slots → Flagged q time r → Clears l k time r
-        drops_after {r} b n j =
-            cleared r (omega (arith, i.count, j.count))
-            (j.state ∙ ap (λ (s : PoisonState). record { entries = s.entries; overflow = true; overflow_time = cond s.overflow s.overflow_time time }) i.state ∙ clear_lost (state_of l) k time at (place_over o) within found got_is f b (held ∙ n))
+    module _ (f : head ≡ 0 → ⊥) where
+      -- the part before is left
+      pub keeps_before : tail ≡ 0 → Clears l k time short
+      keeps_before b = cleared short o.searched.few (short_is.state ∙ clear_back (state_of l) k time at (place_over o.searched) within found got_is f b)
 
-        pub keeps_both : {r : PoisonList} → (tail ≡ 0 → ⊥) → l.count < slots → InsertedAt q (at + 1) (k + 1) tail (get_or l.kinds at 0) r → Clears l k time r
-        keeps_both {r} b n j =
-            cleared r (omega (arith, i.count, j.count))
-            (j.state ∙ ap (λ (s : PoisonState). with_entries s (take (at + 1) s.entries ++ (entry (get_or l.kinds at 0) (run (k + 1) tail) ∷ drop (at + 1) s.entries))) i.state ∙ clear_both (state_of l) k time at (place_over o) within found got_is f b (omega (arith, held)) (set (entries_of l) at (entry (get_or l.kinds at 0) (run (get_or l.starts at 0) head))) refl)
+      -- both are left, with 256 held: the part after is dropped
+      pub drops_after : {r : PoisonList} → (tail ≡ 0 → ⊥) → l.count ≡ slots → r ≡ dropped_at short time → Clears l k time r
+      drops_after {r} b n e =
+          let j = flagged short time e in
+          cleared r (omega (arith, j.count, o.searched.few))
+          (j.state ∙ ap (λ (s : PoisonState). record { entries = s.entries; overflow = true; overflow_time = cond s.overflow s.overflow_time time }) short_is.state ∙ clear_lost (state_of l) k time at (place_over o.searched) within found got_is f b (held ∙ n))
+
+      -- both are left, with fewer held: the part after is put behind the part before
+      pub keeps_both : {r : PoisonList} → (tail ≡ 0 → ⊥) → l.count < slots → EntryAdded short (at + 1) (k + 1) tail kind r → Clears l k time r
+      keeps_both {r} b n e =
+          let j = inserted_at short (shortened_sized l o.searched.sized at head) (omega (arith, o.inside)) n e in
+          cleared r (omega (arith, j.count))
+          (j.state ∙ ap (λ (s : PoisonState). with_entries s (take (at + 1) s.entries ++ (entry kind (run (k + 1) tail) ∷ drop (at + 1) s.entries))) short_is.state ∙ clear_both (state_of l) k time at (place_over o.searched) within found got_is f b (omega (arith, held)) (set (entries_of l) at (entry kind (run start head))) refl)

@@ -43,10 +43,10 @@ pub use Rattle.poison.proofs.Agreement.{agrees}
 pub use Rattle.poison.proofs.Drops.{stored_first, dropped_when_full, BothLeft, dropped_by_clear, all_dropped_by_clear, left_by_clear}
 -- `Flags`: a change never clears the overflow flag, and where it sets the flag, some line is in the dropped set after it. So for each of the three.
 pub use Rattle.poison.proofs.Drops.{Flags, report_flags, inject_flags, clear_flags}
--- `Sized`: the arrays of a list have 256 slots each. A valid list's arrays hold runs in order and apart (`ValidRuns`), as the functions over lent arrays ask.
+-- `Sized`: the arrays of a list have 256 slots each. A valid list's arrays hold runs in order and apart (`ValidRuns`), as the search asks.
 pub use Rattle.poison.proofs.Views.{Sized, valid_runs}
 -- The arrays of a valid list, lent, and the list that they make up with any flag and time.
-pub use Rattle.poison.proofs.Views.{valid_slots, slots_sized, slots_valid}
+pub use Rattle.poison.proofs.Views.{valid_shapes, valid_slots, slots_sized, slots_valid}
 -- Slots past the new last entry keep what they held (document 02, W-203).
 pub use Rattle.poison.proofs.Moves.{past_kept}
 -- The sum of the first `count` lengths is the damage total of the list.

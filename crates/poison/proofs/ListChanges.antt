@@ -8,9 +8,13 @@ use native.Mathlib.Omega.{arith}
 use lib.Dec.{ltb}
 use lib.ListN.{length, take, drop, get_or, set, length-map, length-set}
 use lib.Seq.{set-get_or, take-set-lt}
+use Rattle.std.specs.List.{sum}
+use Rattle.std.proofs.lemmas.List.Sums.{sum_by-cons}
 use Rattle.poison.specs.declared.list.PoisonList.{PoisonList}
 use Rattle.poison.specs.Runs.{Run, run, total}
-use Rattle.poison.specs.Shift.{zip, put_at, pullAt, EntryPut, EntryTaken}
+use Rattle.poison.specs.Shift.{zip, put_at, pullAt}
+use Rattle.poison.specs.Moved.{EntryAdded, EntryRemoved}
+use Rattle.poison.specs.Report.{dropped_at}
 use Rattle.poison.specs.State.{Entry, PoisonState, entry, shape, shapes, runs_in, entries_in, entries_of, list_of, state_of, insert_entry, damage_total, sum_of, total_in}
 use Rattle.poison.specs.Search.{place_of}
 use Rattle.poison.proofs.Moves.{take_put, length_put, take_pull, first_le}
@@ -76,7 +80,7 @@ module _ (starts lengths kinds : List ℕ) (same : length starts ≡ length leng
   unfolding runs all
   entries_pull at n h k =
       rw (zip_pull run at n starts lengths same, zip_pull typed_as at n runs kinds runs_long)
-      (take_pull all (entry 0 (run 0 0)) at n h (rw all_long k))
+      (take_pull all at n h (rw all_long k))
 
   pub entries_set : (at n start lines : ℕ) → at < n → entries_in n (set starts at start) (set lengths at lines) kinds ≡ set (entries_in n starts lengths kinds) at (entry (get_or kinds at 0) (run start lines))
   unfolding runs all
@@ -103,14 +107,15 @@ state_path a b c = λ i. record { entries = a i; overflow = b i; overflow_time =
 
 -- ---- lists in memory
 module _ (l : PoisonList) (sized : Sized l) where
-  pub inserted_at : (r : PoisonList) (at start lines kind : ℕ) → at ≤ l.count → l.count < 256 → EntryPut at l.count start lines kind l.starts l.lengths l.kinds r.starts r.lengths r.kinds → r.count ≡ l.count + 1 → r.overflow ≡ l.overflow → r.overflow_time ≡ l.overflow_time → InsertedAt l at start lines kind r
-  inserted_at r at start lines kind h k p d o t =
+  pub inserted_at : {r : PoisonList} {at start lines kind : ℕ} → at ≤ l.count → l.count < 256 → EntryAdded l at start lines kind r → InsertedAt l at start lines kind r
+  inserted_at {r} {at} {start} {lines} {kind} h k e =
+      let p = e.arrays in
       record {
         state =
             state_path
-            (rw (p.starts, p.lengths, p.kinds, d) (entries_put l.starts l.lengths l.kinds (same_lengths l sized) (same_kinds l sized) at l.count start lines kind h (rw sized.starts k)))
-            o t;
-        count = d;
+            (rw (p.starts, p.lengths, p.kinds, e.count) (entries_put l.starts l.lengths l.kinds (same_lengths l sized) (same_kinds l sized) at l.count start lines kind h (rw sized.starts k)))
+            e.overflow e.overflow_time;
+        count = e.count;
         sized =
             record {
               starts = rw p.starts (length_put l.starts at l.count start h (rw sized.starts k) ∙ sized.starts);
@@ -138,48 +143,50 @@ module _ (l : PoisonList) (sized : Sized l) where
         sized = i.sized;
       }
 
-  pub removed_at : (r : PoisonList) (at : ℕ) → at < l.count → l.count ≤ 256 → EntryTaken at (l.count - 1) l.starts l.lengths l.kinds r.starts r.lengths r.kinds → r.count ≡ l.count - 1 → r.overflow ≡ l.overflow → r.overflow_time ≡ l.overflow_time → RemovedAt l at r
-  removed_at r at h k p d o t =
+  -- an entry that is put in where the search says
+  pub inserted_there : {r : PoisonList} {at start lines kind : ℕ} → at ≡ place_of (runs_in l.count l.starts l.lengths) start → l.count < 256 → EntryAdded l at start lines kind r → Inserted l start lines kind r
+  inserted_there {r} {at} {start} {lines} {kind} e less added =
+      let few : l.count ≤ 256 = omega arith in
+      inserted r at start lines kind e (inserted_at (place_within at start few e) less added)
+
+  pub removed_at : {r : PoisonList} {at : ℕ} → at < l.count → l.count ≤ 256 → EntryRemoved l at r → RemovedAt l at r
+  removed_at {r} {at} h k e =
+      let p = e.arrays in
       let n : l.count - 1 + 1 ≡ l.count = omega arith in
       let w : at ≤ l.count - 1 = omega arith in
       let u : l.count - 1 < 256 = omega arith in
       record {
         state =
             state_path
-            (rw (p.starts, p.lengths, p.kinds, d) (entries_pull l.starts l.lengths l.kinds (same_lengths l sized) (same_kinds l sized) at (l.count - 1) w (rw sized.starts u))
+            (rw (p.starts, p.lengths, p.kinds, e.count) (entries_pull l.starts l.lengths l.kinds (same_lengths l sized) (same_kinds l sized) at (l.count - 1) w (rw sized.starts u))
             ∙ ap (λ (m : ℕ). take at (entries_in m l.starts l.lengths l.kinds) ++ drop (at + 1) (entries_in m l.starts l.lengths l.kinds)) n)
-            o t;
-        count = d;
+            e.overflow e.overflow_time;
+        count = e.count;
       }
 
-  pub replaced_at : (r : PoisonList) (at start lines : ℕ) → at < l.count → r.starts ≡ set l.starts at start → r.lengths ≡ set l.lengths at lines → r.kinds ≡ l.kinds → r.count ≡ l.count → r.overflow ≡ l.overflow → r.overflow_time ≡ l.overflow_time → ReplacedAt l at start lines (get_or l.kinds at 0) r
-  replaced_at r at start lines h a b c d o t =
-      record {
-        state =
-            state_path
-            (rw (a, b, c, d) (entries_set l.starts l.lengths l.kinds (same_lengths l sized) (same_kinds l sized) at l.count start lines h))
-            o t;
-        count = d;
-      }
+-- ---- another start and length at a place, the type as it was; another length alone
+abbrev pub replaced_by : PoisonList → ℕ → ℕ → ℕ → PoisonList
+replaced_by l at start lines = list_of (set l.starts at start) (set l.lengths at lines) l.kinds l.count l.overflow l.overflow_time
 
--- ---- another length at a place, the start and the type as they were
 abbrev pub shortened : PoisonList → ℕ → ℕ → PoisonList
-shortened l at lines =
-    record { starts = l.starts; lengths = set l.lengths at lines; kinds = l.kinds; count = l.count; overflow = l.overflow; overflow_time = l.overflow_time }
+shortened l at lines = list_of l.starts (set l.lengths at lines) l.kinds l.count l.overflow l.overflow_time
 
-module _ (l : PoisonList) (sized : Sized l) (at lines : ℕ) where
-  pub shortened_sized : Sized (shortened l at lines)
-  shortened_sized = record { starts = sized.starts; lengths = length-set l.lengths at lines ∙ sized.lengths; kinds = sized.kinds }
+module _ (l : PoisonList) (sized : Sized l) (at : ℕ) where
+  pub replaced_at : (start lines : ℕ) → at < l.count → ReplacedAt l at start lines (get_or l.kinds at 0) (replaced_by l at start lines)
+  replaced_at start lines h =
+      record { state = state_path (entries_set l.starts l.lengths l.kinds (same_lengths l sized) (same_kinds l sized) at l.count start lines h) refl refl; count = refl }
 
-  pub shortened_at : at < l.count → ReplacedAt l at (get_or l.starts at 0) lines (get_or l.kinds at 0) (shortened l at lines)
-  shortened_at h = replaced_at l sized (shortened l at lines) at (get_or l.starts at 0) lines h (sym (set-get_or l.starts at 0)) refl refl refl refl refl
+  pub shortened_sized : (lines : ℕ) → Sized (shortened l at lines)
+  shortened_sized lines = record { starts = sized.starts; lengths = length-set l.lengths at lines ∙ sized.lengths; kinds = sized.kinds }
+
+  pub shortened_at : (lines : ℕ) → at < l.count → ReplacedAt l at (get_or l.starts at 0) lines (get_or l.kinds at 0) (shortened l at lines)
+  shortened_at lines h =
+      rw set-get_or at (replaced_at (get_or l.starts at 0) lines h)
 
 -- ---- the sum of the lengths
-pub sum_next : (ns : List ℕ) (i : ℕ) → sum_of (take (suc i) ns) ≡ sum_of (take i ns) + get_or ns i 0
-sum_next [] zero = refl
-sum_next [] (suc i) = refl
-sum_next (n ∷ ns) zero = omega arith
-sum_next (n ∷ ns) (suc i) = let q = sum_next ns i in omega arith
+sum_is : (ns : List ℕ) → sum ns ≡ sum_of ns
+sum_is [] = refl
+sum_is (n ∷ ns) = rw sum_by-cons (ap (λ (k : ℕ). n + k) (sum_is ns))
 
 total_runs : (n : ℕ) (starts lengths : List ℕ) → length starts ≡ length lengths → total (runs_in n starts lengths) ≡ total_in n lengths
 total_runs zero starts lengths e = refl
@@ -191,6 +198,9 @@ total_runs (suc n) (s ∷ starts) (m ∷ lengths) e = ap (λ (k : ℕ). m + k) (
 pub total_is : (l : PoisonList) (sized : Sized l) → total_in l.count l.lengths ≡ damage_total (state_of l)
 total_is l sized = sym (ap total (shapes_of l sized) ∙ total_runs l.count l.starts l.lengths (same_lengths l sized))
 
+pub sum_total : (l : PoisonList) (sized : Sized l) → sum (take l.count l.lengths) ≡ damage_total (state_of l)
+sum_total l sized = sum_is (take l.count l.lengths) ∙ total_is l sized
+
 -- ---- the flag set at a drop, with the time of the first
-pub flagged_since : (l : PoisonList) (time since : ℕ) → since ≡ cond l.overflow l.overflow_time time → Flagged l time (list_of l.starts l.lengths l.kinds l.count true since)
-flagged_since l time since e = record { state = state_path refl refl e; count = refl }
+pub flagged : (l : PoisonList) (time : ℕ) {r : PoisonList} → r ≡ dropped_at l time → Flagged l time r
+flagged l time e = rw e (record { state = refl; count = refl })

@@ -1,12 +1,13 @@
--- Laws of `put_at`, `pullAt` and `first_at`: what the loops that move elements up and down keep, and a search from the front. Assumes nothing.
-use mathlib.Core.Path.{◌≡◌, refl, sym, ap, ap₂, ◌∙◌}
+-- Laws of `put_at`, `pullAt` and `first_at`: what moving elements up and down leaves, and a search from the front. Assumes nothing.
+use mathlib.Core.Path.{◌≡◌, refl, sym, ap, ◌∙◌}
 use mathlib.Core.Bool.{Bool, true, false, cond}
 use mathlib.Core.List.{List, [], ◌∷◌, ◌++◌, append_assoc}
 use Prim.Native.Nat.{ℕ, zero, suc, ◌+◌, ◌-◌, ◌≤◌, ◌<◌}
 use native.Mathlib.Numerals.{add-one}
 use native.Mathlib.Omega.{arith}
-use lib.ListN.{length, take, drop, get_or, set, length-append, length-take, length-drop, take-append-drop, get_or-append}
-use lib.Seq.{get_or-drop, get_or-append-add, take_at, take-take, take-nil, split_at, take-suc, drop-cons, set_at, length-take-le, get_or-take}
+use lib.ListN.{length, take, drop, get_or, set, length-append, length-take, length-drop}
+use lib.Seq.{take_at, take-take, take-nil, take-suc, set_at, length-take-le}
+use Rattle.std.specs.List.{copy_within}
 use Rattle.poison.specs.State.{Entry}
 use Rattle.poison.specs.Shift.{put_at, pullAt, first_at}
 
@@ -14,47 +15,22 @@ use Rattle.poison.specs.Shift.{put_at, pullAt, first_at}
 abbrev pub nought : Entry
 nought = record { start = 0; lines = 0; kind = 0 }
 
-module _ {A : Type 0} (l : List A) (d : A) where
-  -- the loop begins: slot n holds what it held
-  pub put_same : (n : ℕ) → n < length l → put_at n n (get_or l n d) l ≡ l
-  unfolding put_at
-  put_same n h =
-      let z : n - n ≡ 0 = omega arith in
-      rw (z, add-one) (sym (split_at l n d h))
+-- what moves the elements from a place on up by one slot, and stores one there, puts that one in at the place
+pub put_moved : {A : Type 0} (l : List A) (at n : ℕ) (v : A) → at ≤ n → n < length l → set (copy_within l at n (at + 1)) at v ≡ put_at at n v l
+unfolding put_at
+put_moved l at n v h k =
+    let b : at < length l = omega arith in
+    let z : at + 1 + (n - at) ≡ n + 1 = omega arith in
+    let t : take (at + 1) l ≡ take at l ++ (get_or l at v ∷ []) = rw (add-one at) (take-suc l at v b) in
+    rw (z, t) (simp append_assoc (set_at (take at l) (get_or l at v) _ v at (length-take-le at l (omega arith))))
 
-  -- a store to the free slot
-  pub set_put : (i n : ℕ) (x y : A) → i ≤ length l → set (put_at i n x l) i y ≡ put_at i n y l
-  unfolding put_at
-  set_put i n x y h = set_at (take i l) x _ y i (length-take-le i l h)
-
-  -- the slot below the free one is as it was
-  pub get_put : (j n : ℕ) (x : A) → j < length l → get_or (put_at (suc j) n x l) j d ≡ get_or l j d
-  unfolding put_at
-  get_put j n x h =
-      let e : length (take (suc j) l) ≡ suc j = length-take-le (suc j) l h in
-      get_or-append (take (suc j) l) _ d j (omega arith) ∙ get_or-take (suc j) l j d (omega arith)
-
-  -- the free slot filled with what lies below it: the free slot is now the one below
-  pub put_down : (j n : ℕ) → j < n → n < length l → put_at (suc j) n (get_or l j d) l ≡ put_at j n (get_or l j d) l
-  unfolding put_at
-  put_down j n h k =
-      let z : n - j ≡ suc (n - suc j) = omega arith in
-      let b : j < length l = omega arith in
-      let t = take-suc l j d b in
-      let u = drop-cons l j d b in
-      rw (z, u, t) (append_assoc (take j l) (get_or l j d ∷ []) _)
-
-  -- a turn: the slot below the free one is copied up
-  pub put_step : (m : List A) (i n : ℕ) → 0 < i → i ≤ n → n < length l → m ≡ put_at i n (get_or l i d) l → set m i (get_or m (i - 1) d) ≡ put_at (i - 1) n (get_or l (i - 1) d) l
-  put_step m i n p q h e =
-      let s : i ≡ suc (i - 1) = omega arith in
-      rw e
-      (at_suc (i - 1) i s (omega arith))
-    where
-      at_suc : (j k : ℕ) → k ≡ suc j → j < n → set (put_at k n (get_or l k d) l) k (get_or (put_at k n (get_or l k d) l) j d) ≡ put_at j n (get_or l j d) l
-      at_suc j k s b =
-          let g : get_or (put_at k n (get_or l k d) l) j d ≡ get_or l j d = rw s (get_put j n (get_or l (suc j) d) (omega arith)) in
-          rw g (set_put k n _ _ (omega arith) ∙ rw s (put_down j n b h))
+-- what moves the elements past a place down by one slot takes the one at the place away
+pub pull_moved : {A : Type 0} (l : List A) (at last : ℕ) → at ≤ last → copy_within l (at + 1) (last + 1) at ≡ pullAt at last l
+unfolding pullAt
+pull_moved l at last h =
+    let y : last + 1 - (at + 1) ≡ last - at = omega arith in
+    let z : at + (last - at) ≡ last = omega arith in
+    rw (y, z) (append_assoc (take at l) _ _)
 
 pub drop_take : {A : Type 0} (m n : ℕ) (l : List A) → drop m (take n l) ≡ take (n - m) (drop m l)
 drop_take zero n l = let e : n - 0 ≡ n = omega arith in rw e
@@ -128,14 +104,7 @@ first_le p (x ∷ l) = go (p x) (first_le p l)
     go false i = omega arith
 
 -- ---- taking an element away
-get_d_past : {A : Type 0} (p q : List A) (n m : ℕ) (d : A) → length p ≡ n → get_or (p ++ q) (n + m) d ≡ get_or q m d
-get_d_past p q n m d e = ap (λ (x : ℕ). get_or (p ++ q) (x + m) d) (sym e) ∙ get_or-append-add p q m d
-
-module _ {A : Type 0} (l : List A) (d : A) where
-  pub pull_same : (at : ℕ) → pullAt at at l ≡ l
-  unfolding pullAt
-  pull_same at = let z : at - at ≡ 0 = omega arith in rw z (take-append-drop at l)
-
+module _ {A : Type 0} (l : List A) where
   kept : ℕ → ℕ → List A
   kept at i = take at l ++ take (i - at) (drop (at + 1) l)
 
@@ -146,30 +115,6 @@ module _ {A : Type 0} (l : List A) (d : A) where
   pull_split : (at i : ℕ) → pullAt at i l ≡ kept at i ++ drop i l
   unfolding pullAt kept
   pull_split at i = sym (append_assoc (take at l) (take (i - at) (drop (at + 1) l)) (drop i l))
-
-  get_pull : (at i : ℕ) → at ≤ i → i < length l → get_or (pullAt at i l) (i + 1) d ≡ get_or l (i + 1) d
-  get_pull at i h k =
-      rw (pull_split at i) (get_d_past (kept at i) (drop i l) i 1 d (len_kept at i h k) ∙ get_or-drop i l 1 d)
-
-  pull_next : (at i : ℕ) → at ≤ i → i + 1 < length l → kept at (i + 1) ≡ kept at i ++ (get_or l (i + 1) d ∷ [])
-  unfolding kept
-  pull_next at i h k =
-      let z : i + 1 - at ≡ suc (i - at) = omega arith in
-      let y : at + 1 + (i - at) ≡ i + 1 = omega arith in
-      let b : i - at < length (drop (at + 1) l) = simp length-drop (omega arith) in
-      rw (z, take-suc (drop (at + 1) l) (i - at) d b, get_or-drop (at + 1) l (i - at) d, y) (sym (append_assoc (take at l) (take (i - at) (drop (at + 1) l)) (get_or l (i + 1) d ∷ [])))
-
-  pull_suc : (at i : ℕ) → at ≤ i → i + 1 < length l → pullAt at (i + 1) l ≡ kept at i ++ (get_or l (i + 1) d ∷ drop (suc i) l)
-  pull_suc at i h k =
-      pull_split at (i + 1)
-      ∙ ap₂ ◌++◌ (pull_next at i h k) (ap (λ (n : ℕ). drop n l) (add-one i))
-      ∙ append_assoc (kept at i) (get_or l (i + 1) d ∷ []) (drop (suc i) l)
-
-  pub pull_step : (m : List A) (at i : ℕ) → at ≤ i → i + 1 < length l → m ≡ pullAt at i l → set m i (get_or m (i + 1) d) ≡ pullAt at (i + 1) l
-  pull_step m at i h k e =
-      let b : i < length l = omega arith in
-      rw (e, get_pull at i h b, pull_suc at i h k, pull_split at i, drop-cons l i d b)
-      (set_at (kept at i) (get_or l i d) (drop (suc i) l) (get_or l (i + 1) d) i (len_kept at i h b))
 
   pub take_pull : (at n : ℕ) → at ≤ n → n < length l → take n (pullAt at n l) ≡ take at (take (n + 1) l) ++ drop (at + 1) (take (n + 1) l)
   unfolding kept

@@ -8,10 +8,12 @@ use native.Mathlib.Omega.{arith}
 use borrow.Author.Tests.{lt-ltb, le-ltb, ltb-true, ltb-false, leb-true, leb-false}
 use lib.Dec.{leb, ltb}
 use lib.ListN.{length, get_or}
+use Rattle.std.specs.Bool.{then_some}
+use Rattle.poison.specs.declared.list.PoisonList.{PoisonList}
 use Rattle.poison.specs.Runs.{Run, run, end, in_run, Chain}
 use Rattle.poison.specs.Shift.{zip}
 use Rattle.poison.specs.State.{runs_in, ValidRuns}
-use Rattle.poison.specs.Search.{cover_at, place_of, Ascending, LastStart}
+use Rattle.poison.specs.Search.{cover_at, place_of, Ascending, LastStart, Finds}
 use Rattle.poison.proofs.Moves.{first_is, first_none}
 use Rattle.poison.proofs.Counts.{below_run, past_run, inside_run}
 use Rattle.poison.proofs.Zips.{length_zip, zip_getD}
@@ -139,8 +141,16 @@ module _ {n : ℕ} (count : ℕ) (starts lengths : List ℕ) (v : ValidRuns n co
             by_zero zero f = refl
             by_zero (suc k) f = absurd (f (omega arith))
 
+-- what the code's test of the run at the last start gives
+pub finds_tested : {n : ℕ} (l : PoisonList) → ValidRuns n l.count l.starts l.lengths → (line i : ℕ) → LastStart l.count l.starts line i → 0 < l.count → (ahead : ℕ) → (get_or l.starts i 0 ≤ line) × (ahead ≡ line - get_or l.starts i 0) → Finds l line (then_some (ltb ahead (get_or l.lengths i 0)) i)
+finds_tested l v line i last some ahead e = go (ltb ahead (get_or l.lengths i 0)) refl
+  where
+    go : (b : Bool) → ltb ahead (get_or l.lengths i 0) ≡ b → Finds l line (then_some b i)
+    go true t = (cover_found l.count l.starts l.lengths v line i last some e.0 (omega (arith, ltb-true ahead (get_or l.lengths i 0) t, e.1)), last.within some)
+    go false t = cover_none l.count l.starts l.lengths v line i last some (inr (omega (arith, ltb-false ahead (get_or l.lengths i 0) t, e.0, e.1)))
+
 -- no entries
-pub cover_empty : (count : ℕ) (starts lengths : List ℕ) (line : ℕ) → count ≡ 0 → 0 ≡ cover_at (runs_in count starts lengths) line
+pub cover_empty : (count : ℕ) (starts lengths : List ℕ) (line : ℕ) → count ≡ 0 → count ≡ cover_at (runs_in count starts lengths) line
 cover_empty count starts lengths line e = rw e
 
 pub place_empty : (count : ℕ) (starts lengths : List ℕ) (line : ℕ) → count ≡ 0 → 0 ≡ place_of (runs_in count starts lengths) line

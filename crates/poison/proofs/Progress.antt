@@ -10,7 +10,6 @@ use borrow.Author.Tests.{lt-ltb, le-ltb}
 use lib.Dec.{ltb}
 use lib.ListN.{length, drop}
 use lib.Seq.{take-nil, drop-nil}
-use Rattle.poison.specs.declared.report.Stretch.{Stretch}
 use Rattle.poison.specs.Runs.{Run, run, in_run, in_runs, runs_of, uncovered, room, slots, some_run}
 use Rattle.poison.specs.State.{Entry, PoisonState, shape, shapes, entry, covers, insert_entry}
 use Rattle.poison.proofs.ListChanges.{with_entries}
@@ -24,17 +23,17 @@ use Rattle.poison.proofs.ListChanges.{state_path}
 use Rattle.poison.proofs.Extents.{runs_cong, runs_skip, runs_fill, total_chain, some_total, chain_drop, total_take_drop}
 
 -- ---- what is found from a line on, past a stretch
-module _ (es : List Entry) (a e : ℕ) (t : Stretch) (s : Stretches (shapes es) a e t) where
-  found_covered : t.covered ≡ true → found es a (e - a) ≡ found es t.stop (e - t.stop)
+module _ (es : List Entry) (a e stop : ℕ) (c : Bool) (s : Stretches (shapes es) a e stop c) where
+  found_covered : c ≡ true → found es a (e - a) ≡ found es stop (e - stop)
   unfolding uncovered
   found_covered g =
       let u = s.ahead in
       let v = s.within in
-      let x : e - a ≡ t.stop - a + (e - t.stop) = omega arith in
-      let y : a + (t.stop - a) ≡ t.stop = omega arith in
-      rw x (runs_skip (λ k. not (covers es k)) a (t.stop - a) (e - t.stop) (λ k p q. ap not (s.same k p (omega arith) ∙ g)) ∙ rw y)
+      let x : e - a ≡ stop - a + (e - stop) = omega arith in
+      let y : a + (stop - a) ≡ stop = omega arith in
+      rw x (runs_skip (λ k. not (covers es k)) a (stop - a) (e - stop) (λ k p q. ap not (s.same k p (omega arith) ∙ g)) ∙ rw y)
 
-  found_free : t.covered ≡ false → found es a (e - a) ≡ run a (t.stop - a) ∷ found es t.stop (e - t.stop)
+  found_free : c ≡ false → found es a (e - a) ≡ run a (stop - a) ∷ found es stop (e - stop)
   unfolding uncovered
   found_free g = go (s.edge g)
     where
@@ -42,34 +41,34 @@ module _ (es : List Entry) (a e : ℕ) (t : Stretch) (s : Stretches (shapes es) 
       N k = not (covers es k)
 
       m : ℕ
-      m = t.stop - a - 1
+      m = stop - a - 1
 
-      sm : suc m ≡ t.stop - a
+      sm : suc m ≡ stop - a
       sm = omega (arith, s.ahead)
 
-      x : e - a ≡ suc m + (e - t.stop)
+      x : e - a ≡ suc m + (e - stop)
       x = omega (arith, s.ahead, s.within)
 
-      y : a + suc m ≡ t.stop
+      y : a + suc m ≡ stop
       y = omega (arith, s.ahead)
 
-      filled : (e - t.stop ≡ 0) ⊎ (N (a + suc m) ≡ false) → runs_of N a (e - a) ≡ run a (t.stop - a) ∷ runs_of N t.stop (e - t.stop)
-      filled f = rw x (runs_fill N a m (e - t.stop) (λ k p q. ap not (s.same k p (omega (arith, y)) ∙ g)) f ∙ rw (y, sm))
+      filled : (e - stop ≡ 0) ⊎ (N (a + suc m) ≡ false) → runs_of N a (e - a) ≡ run a (stop - a) ∷ runs_of N stop (e - stop)
+      filled f = rw x (runs_fill N a m (e - stop) (λ k p q. ap not (s.same k p (omega (arith, y)) ∙ g)) f ∙ rw (y, sm))
 
-      go : (t.stop ≡ e) ⊎ (covers es t.stop ≡ true) → runs_of N a (e - a) ≡ run a (t.stop - a) ∷ runs_of N t.stop (e - t.stop)
+      go : (stop ≡ e) ⊎ (covers es stop ≡ true) → runs_of N a (e - a) ≡ run a (stop - a) ∷ runs_of N stop (e - stop)
       go (inl h) = filled (inl (omega arith))
       go (inr h) = filled (inr (rw (y, h)))
 
   -- an entry of the stretch covers nothing past it
-  found_same : (kind : ℕ) → found (insert_entry (entry kind (run a (t.stop - a))) es) t.stop (e - t.stop) ≡ found es t.stop (e - t.stop)
+  found_same : (kind : ℕ) → found (insert_entry (entry kind (run a (stop - a))) es) stop (e - stop) ≡ found es stop (e - stop)
   unfolding uncovered
   found_same kind =
-      runs_cong (λ k. not (covers (insert_entry E es) k)) (λ k. not (covers es k)) t.stop (e - t.stop) (λ k u v. ap not (covers_same k u))
+      runs_cong (λ k. not (covers (insert_entry E es) k)) (λ k. not (covers es k)) stop (e - stop) (λ k u v. ap not (covers_same k u))
     where
       E : Entry
-      E = entry kind (run a (t.stop - a))
+      E = entry kind (run a (stop - a))
 
-      covers_same : (k : ℕ) → t.stop ≤ k → covers (insert_entry E es) k ≡ covers es k
+      covers_same : (k : ℕ) → stop ≤ k → covers (insert_entry E es) k ≡ covers es k
       covers_same k u =
           let q : in_run (shape E) k ≡ false = past_run (shape E) k (omega (arith, s.ahead)) in
           ap (λ (rs : List Run). in_runs rs k) (shapes_insert E es) ∙ in_insert (shape E) (shapes es) k ∙ ap (λ (b : Bool). b || covers es k) q
@@ -97,12 +96,12 @@ progress_start s a n kind =
     let z : a + n - a ≡ n = omega arith in
     record { overflow = refl; time = refl; entries = rw z; stored_lines = rw z (omega arith); dropped_lines = rw z (omega arith) }
 
-module _ (s₀ s : PoisonState) (a n kind at stored dropped : ℕ) (p : Progress s₀ s a n kind at stored dropped) (t : Stretch) (st : Stretches (shapes s.entries) at (a + n) t) where
+module _ (s₀ s : PoisonState) (a n kind at stored dropped : ℕ) (p : Progress s₀ s a n kind at stored dropped) {stop : ℕ} {c : Bool} (st : Stretches (shapes s.entries) at (a + n) stop c) where
   -- covered lines keep their entries, and are neither stored nor dropped
-  pub progress_covered : t.covered ≡ true → Progress s₀ s a n kind t.stop stored dropped
+  pub progress_covered : c ≡ true → Progress s₀ s a n kind stop stored dropped
   unfolding report_entries lines_stored lines_dropped
   progress_covered g =
-      let f = found_covered s.entries at (a + n) t st g in
+      let f = found_covered s.entries at (a + n) stop c st g in
       record {
         overflow = p.overflow;
         time = p.time;
@@ -112,10 +111,10 @@ module _ (s₀ s : PoisonState) (a n kind at stored dropped : ℕ) (p : Progress
       }
 
   -- with 256 held an uncovered run is dropped
-  pub progress_dropped : t.covered ≡ false → length s.entries ≡ slots → Progress s₀ s a n kind t.stop stored (dropped + (t.stop - at))
+  pub progress_dropped : c ≡ false → length s.entries ≡ slots → Progress s₀ s a n kind stop stored (dropped + (stop - at))
   unfolding report_entries lines_stored lines_dropped
   progress_dropped g full =
-      let f = found_free s.entries at (a + n) t st g in
+      let f = found_free s.entries at (a + n) stop c st g in
       let z : room (length s.entries) ≡ 0 = omega arith in
       let x = rw z at p.entries in
       let y = rw z at p.stored_lines in
@@ -129,13 +128,13 @@ module _ (s₀ s : PoisonState) (a n kind at stored dropped : ℕ) (p : Progress
       }
 
   -- with fewer held it becomes an entry
-  pub progress_stored : t.covered ≡ false → length s.entries < slots → (s' : PoisonState) → s' ≡ with_entries s (insert_entry (entry kind (run at (t.stop - at))) s.entries) → Progress s₀ s' a n kind t.stop (stored + (t.stop - at)) dropped
+  pub progress_stored : c ≡ false → length s.entries < slots → (s' : PoisonState) → s' ≡ with_entries s (insert_entry (entry kind (run at (stop - at))) s.entries) → Progress s₀ s' a n kind stop (stored + (stop - at)) dropped
   unfolding report_entries lines_stored lines_dropped
   progress_stored g less s' h =
-      let f = found_free s.entries at (a + n) t st g in
-      let q = found_same s.entries at (a + n) t st kind in
-      let l = length_insert_entry (entry kind (run at (t.stop - at))) s.entries in
-      let z : room (length s.entries) ≡ suc (room (length (insert_entry (entry kind (run at (t.stop - at))) s.entries))) = omega arith in
+      let f = found_free s.entries at (a + n) stop c st g in
+      let q = found_same s.entries at (a + n) stop c st kind in
+      let l = length_insert_entry (entry kind (run at (stop - at))) s.entries in
+      let z : room (length s.entries) ≡ suc (room (length (insert_entry (entry kind (run at (stop - at))) s.entries))) = omega arith in
       let x = rw (f, z) at p.entries in
       let y = rw (f, z) at p.stored_lines in
       let w = rw (f, z) at p.dropped_lines in

@@ -4,10 +4,10 @@ use mathlib.Core.Path.{◌≡◌, refl, sym, ◌∙◌}
 use mathlib.Core.Bool.{Bool, true, false, ◌||◌, cond, true≢false}
 use mathlib.Core.List.{List, [], ◌∷◌}
 use mathlib.Core.Logic.{◌⊎◌, inl, inr}
-use Prim.Native.Nat.{ℕ, zero, suc, ◌+◌, ◌≤◌, ◌<◌}
+use Prim.Native.Nat.{ℕ, zero, suc, ◌+◌, ◌≤◌, ◌<◌, min}
 use native.Mathlib.Omega.{arith}
-use borrow.Author.Tests.{ltb-true, ltb-false}
-use lib.Dec.{ltb}
+use borrow.Author.Tests.{ltb-true, ltb-false, leb-true, leb-false}
+use lib.Dec.{ltb, leb}
 use lib.ListN.{length, get_or}
 use Rattle.poison.specs.Runs.{Run, run, end, in_run, in_runs, Chain}
 use Rattle.poison.specs.State.{runs_in, ValidRuns}
@@ -17,7 +17,7 @@ use Rattle.poison.proofs.Moves.{first_holds}
 use Rattle.poison.proofs.Counts.{Place, low, mid, high, place, below_run, past_run, inside_run, chain_le, chain_low}
 use Rattle.poison.proofs.Views.{length_runs, run_at}
 use Rattle.poison.proofs.Places.{chain_from}
-use Rattle.poison.proofs.Covering.{no_run, covered_at, cover_le, none_covers, cover_bounds}
+use Rattle.poison.proofs.Covering.{no_run, covered_at, none_covers, cover_bounds}
 
 -- ---- a run of a chain ends where the chain does or before
 pub chain_end : (lo hi i : ℕ) (rs : List Run) → Chain lo hi rs → i < length rs → end (get_or rs i no_run) ≤ hi
@@ -52,77 +52,76 @@ free_until lo hi a k (x ∷ rs) c e h f = go (ltb a x.start) refl f (free_until 
 -- ---- the stretch from a line on
 module _ (rs : List Run) (hi a e : ℕ) (c : Chain 0 hi rs) (lt : a < e) where
   -- a run over the line: its lines are covered, to its end or to the extent's
-  pub stretch_covered : cover_at rs a < length rs → (stop : ℕ) → a < stop → stop ≤ e → stop ≤ end (get_or rs (cover_at rs a) no_run) → Stretches rs a e (record { stop = stop; covered = true })
-  stretch_covered h stop u v w =
+  pub stretch_covered : cover_at rs a < length rs → (stop : ℕ) → stop ≡ min (end (get_or rs (cover_at rs a) no_run)) e → Stretches rs a e stop true
+  stretch_covered h stop is =
       let b = cover_bounds rs a h in
       record {
-        ahead = u;
-        within = v;
+        ahead = omega arith;
+        within = omega arith;
         same = λ k p q. covered_at rs (cover_at rs a) k h (inside_run (get_or rs (cover_at rs a) no_run) k (omega arith) (omega arith));
         edge = λ z. absurd (true≢false z);
       }
 
-  module _ (none : cover_at rs a ≡ length rs) where
-    -- no run over it and none starts before the extent's end: no line up to there is covered
-    pub stretch_last : (place_of rs a < length rs → e ≤ (get_or rs (place_of rs a) no_run).start) → Stretches rs a e (record { stop = e; covered = false })
-    stretch_last f =
-        record {
-          ahead = lt;
-          within = omega arith;
-          same = λ k p q. free_until 0 hi a k rs c (none_covers rs a none) p (λ z. omega (arith, f z));
-          edge = λ z. inl refl;
-        }
+  -- no run over it: no line is covered up to where the extent ends or the next run starts
+  pub stretch_free : cover_at rs a ≡ length rs → (stop : ℕ) → stop ≤ e → (place_of rs a < length rs → stop ≤ (get_or rs (place_of rs a) no_run).start) → (stop ≡ e) ⊎ ((place_of rs a < length rs) × (stop ≡ (get_or rs (place_of rs a) no_run).start)) → Stretches rs a e stop false
+  stretch_free none stop within before o =
+      record {
+        ahead = ahead o;
+        within = within;
+        same = λ k p q. free_until 0 hi a k rs c (none_covers rs a none) p (λ z. omega (arith, before z));
+        edge = λ y. edge o;
+      }
+    where
+      ahead : (stop ≡ e) ⊎ ((place_of rs a < length rs) × (stop ≡ (get_or rs (place_of rs a) no_run).start)) → a < stop
+      ahead (inl q) = omega arith
+      ahead (inr q) = omega (arith, ltb-true a (get_or rs (place_of rs a) no_run).start (first_holds (λ (x : Run). ltb a x.start) no_run rs q.0), q.1)
 
-    -- no run over it: no line up to the next run is covered
-    pub stretch_next : place_of rs a < length rs → (get_or rs (place_of rs a) no_run).start < e → Stretches rs a e (record { stop = (get_or rs (place_of rs a) no_run).start; covered = false })
-    stretch_next z w =
-        record {
-          ahead = ltb-true a (get_or rs (place_of rs a) no_run).start (first_holds (λ (x : Run). ltb a x.start) no_run rs z);
-          within = omega arith;
-          same = λ k p q. free_until 0 hi a k rs c (none_covers rs a none) p (λ y. q);
-          edge = λ y. inr (covered_at rs (place_of rs a) (get_or rs (place_of rs a) no_run).start z (inside_run (get_or rs (place_of rs a) no_run) (get_or rs (place_of rs a) no_run).start (omega arith) (omega (arith, chain_from 0 hi rs c (place_of rs a) no_run z))));
-        }
+      edge : (stop ≡ e) ⊎ ((place_of rs a < length rs) × (stop ≡ (get_or rs (place_of rs a) no_run).start)) → (stop ≡ e) ⊎ (in_runs rs stop ≡ true)
+      edge (inl q) = inl q
+      edge (inr q) = inr (covered_at rs (place_of rs a) stop q.0 (inside_run (get_or rs (place_of rs a) no_run) stop (omega (arith, q.1)) (omega (arith, q.1, chain_from 0 hi rs c (place_of rs a) no_run q.0))))
 
--- ---- runs in arrays, with the answer of the search for the run over line a
-module _ {n count : ℕ} {starts lengths : List ℕ} (v : ValidRuns n count starts lengths) {a e : ℕ} (lt : a < e) {i : ℕ} (is : i ≡ cover_at (runs_in count starts lengths) a) where
+-- ---- runs in arrays, with the answers of the search for line a
+module _ {n count : ℕ} {starts lengths : List ℕ} (v : ValidRuns n count starts lengths) {a e : ℕ} (lt : a < e) where
+  abbrev R : List Run
+  R = runs_in count starts lengths
+
   same_slots : length starts ≡ length lengths
   same_slots = v.starts_slots ∙ sym v.lengths_slots
 
-  len : length (runs_in count starts lengths) ≡ count
+  len : length R ≡ count
   len = length_runs count starts lengths same_slots (omega (arith, v.few, v.starts_slots))
 
-  at_place : (j : ℕ) → j < count → get_or (runs_in count starts lengths) j no_run ≡ run (get_or starts j 0) (get_or lengths j 0)
+  at_place : (j : ℕ) → j < count → get_or R j no_run ≡ run (get_or starts j 0) (get_or lengths j 0)
   at_place j h = run_at count starts lengths same_slots j h
 
-  over : i < count → cover_at (runs_in count starts lengths) a < length (runs_in count starts lengths)
-  over h = omega (arith, len, is)
+  -- an entry over the line
+  module _ {i : ℕ} (is : i ≡ cover_at R a) (h : i < count) where
+    over : cover_at R a < length R
+    over = omega (arith, len, is)
 
-  over_is : i < count → get_or (runs_in count starts lengths) (cover_at (runs_in count starts lengths) a) no_run ≡ run (get_or starts i 0) (get_or lengths i 0)
-  over_is h = rw (← is) (at_place i h)
+    over_is : get_or R (cover_at R a) no_run ≡ run (get_or starts i 0) (get_or lengths i 0)
+    over_is = rw (← is) (at_place i h)
 
-  pub entry_end : i < count → get_or starts i 0 + get_or lengths i 0 ≤ n
-  entry_end h = rw (over_is h) at (chain_end 0 n (cover_at (runs_in count starts lengths) a) (runs_in count starts lengths) v.chain (over h))
+    pub entry_end : get_or starts i 0 + get_or lengths i 0 ≤ n
+    entry_end = rw over_is at (chain_end 0 n (cover_at R a) R v.chain over)
 
-  -- the entry over the line goes on to the extent's end, or ends before
-  pub covered_to : i < count → (stop : ℕ) → (stop ≡ e) ⊎ (stop ≡ get_or starts i 0 + get_or lengths i 0) → stop ≤ e → stop ≤ get_or starts i 0 + get_or lengths i 0 → Stretches (runs_in count starts lengths) a e (record { stop = stop; covered = true })
-  covered_to h stop w u p =
-      let b = rw (over_is h) at (cover_bounds (runs_in count starts lengths) a (over h)) in
-      stretch_covered (runs_in count starts lengths) n a e v.chain lt (over h) stop (ahead w b) u (rw (over_is h) p)
-    where
-      ahead : (stop ≡ e) ⊎ (stop ≡ get_or starts i 0 + get_or lengths i 0) → (get_or starts i 0 ≤ a) × (a < get_or starts i 0 + get_or lengths i 0) → a < stop
-      ahead (inl z) b = omega arith
-      ahead (inr z) b = omega arith
+    pub covered_to : {stop : ℕ} → stop ≡ min (get_or starts i 0 + get_or lengths i 0) e → Stretches R a e stop true
+    covered_to {stop} s = stretch_covered R n a e v.chain lt over stop (rw over_is s)
 
-  module _ (none : count ≤ i) {p : ℕ} (next : p ≡ place_of (runs_in count starts lengths) a) where
-    no_run_over : cover_at (runs_in count starts lengths) a ≡ length (runs_in count starts lengths)
-    no_run_over = omega (arith, is, len, cover_le (runs_in count starts lengths) a)
+  -- no entry over it, and the place of the next
+  module _ (none : count ≡ cover_at R a) {p : ℕ} (next : p ≡ place_of R a) where
+    no_run_over : cover_at R a ≡ length R
+    no_run_over = omega (arith, none, len)
 
-    next_is : p < count → get_or (runs_in count starts lengths) (place_of (runs_in count starts lengths) a) no_run ≡ run (get_or starts p 0) (get_or lengths p 0)
-    next_is h = rw (← next) (at_place p h)
+    pub free_to_next : p < count → {stop : ℕ} → stop ≡ min (get_or starts p 0) e → Stretches R a e stop false
+    free_to_next h {stop} s = stretch_free R n a e v.chain lt no_run_over stop (omega arith) (λ z. rw start_is (omega arith)) (ends (leb (get_or starts p 0) e) refl)
+      where
+        start_is : get_or R (place_of R a) no_run ≡ run (get_or starts p 0) (get_or lengths p 0)
+        start_is = rw (← next) (at_place p h)
 
-    -- no entry over the line: the next one starts before the extent's end, or does not
-    pub free_to_next : p < count → get_or starts p 0 < e → Stretches (runs_in count starts lengths) a e (record { stop = get_or starts p 0; covered = false })
-    free_to_next h u = rw (next_is h) at (stretch_next (runs_in count starts lengths) n a e v.chain lt no_run_over (omega (arith, next, len)) (rw (next_is h) u))
+        ends : (b : Bool) → leb (get_or starts p 0) e ≡ b → (stop ≡ e) ⊎ ((place_of R a < length R) × (stop ≡ (get_or R (place_of R a) no_run).start))
+        ends true t = inr (omega (arith, next, len), rw start_is (omega (arith, leb-true (get_or starts p 0) e t)))
+        ends false t = inl (omega (arith, leb-false (get_or starts p 0) e t))
 
-    pub free_to_end : (p < count → e ≤ get_or starts p 0) → Stretches (runs_in count starts lengths) a e (record { stop = e; covered = false })
-    free_to_end f = stretch_last (runs_in count starts lengths) n a e v.chain lt no_run_over (λ z. let h : p < count = omega (arith, next, len) in rw (next_is h) (f h))
+    pub free_to_end : count ≤ p → Stretches R a e e false
+    free_to_end h = stretch_free R n a e v.chain lt no_run_over e (omega arith) (λ z. absurd (omega (arith, next, len))) (inl refl)

@@ -9,7 +9,7 @@ use lib.Seq.{length-take-le, get_or-take}
 use Rattle.poison.specs.declared.list.PoisonList.{PoisonList}
 use Rattle.poison.specs.Runs.{Run, run}
 use Rattle.poison.specs.Shift.{zip}
-use Rattle.poison.specs.State.{Entry, shapes, entry, runs_in, entries_in, entries_of, list_of, ValidRuns, ValidList, ValidSlots}
+use Rattle.poison.specs.State.{Entry, shapes, entry, runs_in, entries_in, entries_of, list_of, ValidRuns, ValidList, ValidShapes, ValidSlots}
 use Rattle.poison.proofs.Zips.{length_zip, zip_getD}
 
 -- a run and a type as an entry
@@ -72,8 +72,15 @@ module _ (l : PoisonList) (sized : Sized l) where
   pub entry_at : (i : ℕ) → i < l.count → get_or (entries_of l) i (entry 0 (run 0 0)) ≡ entry (get_or l.kinds i 0) (run (get_or l.starts i 0) (get_or l.lengths i 0))
   entry_at i h = entry_in l.count l.starts l.lengths same_lengths l.kinds same_kinds i h
 
+  pub shapes_runs : {n : ℕ} → ValidShapes n l → ValidRuns n l.count l.starts l.lengths
+  shapes_runs v = record { few = v.few; starts_slots = sized.starts; lengths_slots = sized.lengths; chain = rw (← shapes_of) v.chain }
+
   pub valid_runs : {n : ℕ} → ValidList n l → ValidRuns n l.count l.starts l.lengths
   valid_runs v = record { few = v.few; starts_slots = sized.starts; lengths_slots = sized.lengths; chain = rw (← shapes_of) v.chain }
+
+-- a valid list's runs are in order, whatever its types
+pub valid_shapes : {n : ℕ} {l : PoisonList} → ValidList n l → ValidShapes n l
+valid_shapes v = record { few = v.few; chain = v.chain }
 
 -- ---- the arrays of a valid list, lent, and the list that they make up with any flag and time
 pub valid_slots : (l : PoisonList) → Sized l → {n : ℕ} → ValidList n l → ValidSlots n l.count l.starts l.lengths l.kinds

@@ -2,6 +2,7 @@
 pub mod Runs
 pub mod Shift
 pub mod State
+pub mod Moved
 pub mod Search
 pub mod Report
 pub mod Stretch
@@ -10,3 +11,4 @@ pub mod Clear
 pub mod LineTest
 pub mod Range
 pub mod Paper
+pub mod Injected

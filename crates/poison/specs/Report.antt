@@ -1,9 +1,9 @@
 -- Media report (document 01, "Poison list"): "The lines that no entry covers form maximal runs; ascending, each run becomes an entry
 -- of that type while fewer than 256 are held; the other runs are dropped. The answer gives lines stored and lines dropped."
-use Rattle.std.specs.Prelude.{◌≡◌, Bool, ◌||◌, cond, List, map, ℕ, ◌+◌, ◌≤◌, leb, eqb, length, take, drop}
+use Rattle.std.specs.Prelude.{◌≡◌, Bool, true, ◌||◌, cond, List, map, ℕ, ◌+◌, ◌≤◌, leb, eqb, length, take, drop}
 use Rattle.poison.specs.declared.list.PoisonList.{PoisonList}
 use Rattle.poison.specs.Runs.{Run, total, room, uncovered, some_run}
-use Rattle.poison.specs.State.{Entry, PoisonState, entry, shapes, insert_entries, state_of, ValidList}
+use Rattle.poison.specs.State.{Entry, PoisonState, entry, shapes, insert_entries, list_of, state_of, ValidList}
 
 -- a type that a report may name: 0, 1, 2 or 7
 unfoldable pub reportable : ℕ → Bool
@@ -39,6 +39,10 @@ with_drop s es rs time =
       overflow = s.overflow || some_run rs;
       overflow_time = cond s.overflow s.overflow_time (cond (some_run rs) time s.overflow_time);
     }
+
+-- the list in memory after a drop at a time: the same rule, of its flag and its overflow time
+abbrev pub dropped_at : PoisonList → ℕ → PoisonList
+dropped_at l time = list_of l.starts l.lengths l.kinds l.count true (cond l.overflow l.overflow_time time)
 
 -- the list after a report of n lines from a on, of a type, at a device time
 abbrev pub after_report : PoisonState → ℕ → ℕ → ℕ → ℕ → PoisonState

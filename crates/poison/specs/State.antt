@@ -103,6 +103,11 @@ pub record ValidList (n : ℕ) (l : PoisonList) : Type 0 where
   pub chain : Chain 0 n (shapes (entries_of l))
   pub typed : Typed (entries_of l)
 
+-- the same, whatever the types: enough for a line test
+pub record ValidShapes (n : ℕ) (l : PoisonList) : Type 0 where
+  pub few : l.count ≤ slots
+  pub chain : Chain 0 n (shapes (entries_of l))
+
 -- a valid list's arrays, lent: 256 slots each, and the first `count` entries as a valid list has them; the flag and its time do not matter
 pub record ValidSlots (n count : ℕ) (starts lengths kinds : List ℕ) : Type 0 where
   pub runs : ValidRuns n count starts lengths

@@ -1,85 +1,43 @@
 // Clear Poison (document 01, "Poison list"), of a line of the device: its caller has checked the address.
 ghost use Rattle.std.specs.Prelude.{◌<◌};
-ghost use Rattle.poison.specs.State.{capacity, list_of, ValidSlots};
+ghost use Rattle.poison.specs.State.{capacity, ValidList};
 ghost use Rattle.poison.specs.Clear.{Clears};
 
-use crate::{list, search, shift};
+use crate::list::{Entry, PoisonList};
 
-// What a clearing leaves beside the arrays: the number of entries, the overflow flag and the overflow time.
-#[derive(Clone, Copy)]
-pub struct Cleared {
-    pub count: usize,
-    pub overflow: bool,
-    pub since: u64,
-}
-
-// Clear Poison of a line, at a device time, in the arrays of a list, where they lie: the entry over the line is replaced by the part before and the part after, each if not
-// empty. With 256 held and both parts left, the part after is dropped.
-pub fn clear_in(
-    starts: &mut [u32; 256],
-    lengths: &mut [u32; 256],
-    kinds: &mut [u8; 256],
-    count: usize,
-    overflow: bool,
-    since: u64,
-    line: u32,
-    time: u64,
-) -> Cleared
-    requires { ValidSlots capacity count starts.old lengths.old kinds.old × (line < capacity) }
-    ensures { Clears (list_of starts.old lengths.old kinds.old count overflow since) line time (list_of starts.new lengths.new kinds.new result.count result.overflow result.since) }
-{
-    let at = search::cover(starts, lengths, count, line);
-    if count <= at {
-        return Cleared {
-            count,
-            overflow,
-            since,
+impl PoisonList {
+    // Clear Poison of a line, at a device time: the entry over the line is replaced by the part before and the part after, each if not
+    // empty. With 256 held and both parts left, the part after is dropped.
+    pub fn clear(&mut self, line: u32, time: u64)
+        requires { ValidList capacity self.old × (line < capacity) }
+        ensures { Clears self.old line time self.new }
+    {
+        let Some(at) = self.cover(line) else {
+            return;
         };
-    }
-    let start = starts[at];
-    let kind = kinds[at];
-    let front = line - start;
-    let back = lengths[at] - front - 1;
-    if front == 0 {
-        if back == 0 {
-            let last = count - 1;
-            shift::take_entry(starts, lengths, kinds, at, last);
-            return Cleared {
-                count: last,
-                overflow,
-                since,
-            };
+        let over = self.entry_at(at);
+        let front = line - over.start;
+        let back = over.lines - front - 1;
+        match (front, back) {
+            (0, 0) => self.take_entry(at),
+            (0, _) => {
+                self.starts[at] = line + 1;
+                self.lengths[at] = back;
+            }
+            (_, 0) => self.lengths[at] = front,
+            _ => {
+                self.lengths[at] = front;
+                if self.count == 256 {
+                    self.record_drop(time);
+                } else {
+                    let after = Entry {
+                        start: line + 1,
+                        lines: back,
+                        kind: over.kind,
+                    };
+                    self.put_entry(at + 1, after);
+                }
+            }
         }
-        starts[at] = line + 1;
-        lengths[at] = back;
-        return Cleared {
-            count,
-            overflow,
-            since,
-        };
-    }
-    lengths[at] = front;
-    if back == 0 {
-        return Cleared {
-            count,
-            overflow,
-            since,
-        };
-    }
-    if count == 256 {
-        let first = list::first_drop(overflow, since, time);
-        return Cleared {
-            count,
-            overflow: true,
-            since: first,
-        };
-    }
-    let place = at + 1;
-    shift::put_entry(starts, lengths, kinds, place, count, line + 1, back, kind);
-    let more = count + 1;
-    Cleared {
-        count: more,
-        overflow,
-        since,
     }
 }

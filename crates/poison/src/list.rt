@@ -1,12 +1,13 @@
-// The list in memory: starts, lengths and types side by side, so that each array can be lent to a function that works in place.
-// The entries are the first `count` of each; what stands past them is no part of the list.
-ghost use Rattle.std.specs.Prelude.{◌≡◌, cond, ◌≤◌, ◌<◌};
-ghost use Rattle.poison.specs.State.{state_of, capacity, ValidList, Made, damage_total, total_in};
+// The list in memory, with what its other modules read and set in it: an entry, and a drop.
+ghost use Rattle.std.specs.Prelude.{◌≡◌, ◌≤◌, ◌<◌, length, get_or, sum};
+ghost use Rattle.poison.specs.State.{state_of, Made, damage_total};
+ghost use Rattle.poison.specs.Report.{dropped_at};
 
-// The fields are public for whoever lends the arrays: crate `embed`, which has the list behind a pointer, and `mailbox`, which has one by value (`by_parts`, `pool`). No other crate
-// names one (tests/layers).
+// The entries are the first `count` of each array; what stands past them is no part of the list, and shows in `==` and `Debug` alone. The arrays stay side by side: crate `embed_c` exports
+// this layout to C (`#[repr(C)]`, 7,672 bytes of a device), and the search reads starts alone.
+// Of the fields, which are public, `list_commands` reads the flag and its time; no other crate names one (tests/layers).
 #[repr(C)]
-#[derive(Clone, Copy)]
+#[derive(Clone, Copy, Debug, PartialEq, Eq)]
 pub struct PoisonList {
     pub starts: [u32; 256],
     pub lengths: [u32; 256],
@@ -16,32 +17,20 @@ pub struct PoisonList {
     pub overflow_time: u64,
 }
 
-// A number of lines in 64 bits. Of an element read behind a reference the prover knows no bound; of an argument it does.
-fn wide(lines: u32) -> u64
-    ensures { (result ≡ lines) × (result < 4294967296) }
-{
-    lines as u64
+// An entry: its first line, the number of its lines, and its type.
+#[derive(Clone, Copy, Debug, PartialEq, Eq)]
+pub(crate) struct Entry {
+    pub start: u32,
+    pub lines: u32,
+    pub kind: u8,
 }
 
-// The sum of the first `count` lengths, over the array of a list: lent from where the list lies, it is not copied.
-pub fn total_in(lengths: &[u32; 256], count: usize) -> u64
-    requires { count ≤ 256 }
-    ensures { result ≡ total_in count lengths.now }
+// The sum of some lengths.
+fn line_sum(lengths: &[u32]) -> u64
+    requires { length lengths.now ≤ 256 }
+    ensures { result ≡ sum lengths.now }
 {
-    let mut total: u64 = 0;
-    let mut i: usize = 0;
-    while i < count {
-        total += wide(lengths[i]);
-        i += 1;
-    }
-    total
-}
-
-// The overflow time after a drop at a device time: the first drop sets it, and it stays.
-pub(crate) fn first_drop(overflow: bool, since: u64, time: u64) -> u64
-    ensures { result ≡ cond overflow since time }
-{
-    if overflow { since } else { time }
+    lengths.iter().map(|&lines| u64::from(lines)).sum()
 }
 
 impl PoisonList {
@@ -60,10 +49,34 @@ impl PoisonList {
     }
 
     // Damage total: the sum of entry lengths, worked out at each call.
-    pub fn total(self) -> u64
-        requires { ValidList capacity self }
-        ensures { result ≡ damage_total (state_of self) }
+    pub fn total(&self) -> u64
+        requires { self.now.count ≤ 256 }
+        ensures { result ≡ damage_total (state_of self.now) }
     {
-        total_in(&self.lengths, self.count)
+        line_sum(&self.lengths[..self.count])
+    }
+
+    // What the arrays hold at place i.
+    pub(crate) fn entry_at(&self, i: usize) -> Entry
+        requires { i < 256 }
+        ensures start { result.start ≡ get_or self.now.starts i 0 }
+        ensures lines { result.lines ≡ get_or self.now.lengths i 0 }
+        ensures kind { result.kind ≡ get_or self.now.kinds i 0 }
+    {
+        Entry {
+            start: self.starts[i],
+            lines: self.lengths[i],
+            kind: self.kinds[i],
+        }
+    }
+
+    // A drop at a device time: the flag is set, and the first drop sets the overflow time, which then stays.
+    pub(crate) fn record_drop(&mut self, time: u64)
+        ensures { self.new ≡ dropped_at self.old time }
+    {
+        if !self.overflow {
+            self.overflow_time = time;
+        }
+        self.overflow = true;
     }
 }

@@ -1,90 +1,49 @@
-// Elements moved within one array, in place: one put in its place, or one taken away. One function for each element type; their proofs
-// share one law over the type. An entry is put in its place, or taken away, by one function over the three arrays of a list: nothing else moves entries.
-ghost use Rattle.std.specs.Prelude.{◌≡◌, ◌+◌, ◌≤◌, ◌<◌, length};
-ghost use Rattle.poison.specs.Shift.{put_at, pullAt, EntryPut, EntryTaken};
+// An entry put in its place in a list, or taken away: the elements of each array move in place, and nothing else moves entries.
+ghost use Rattle.std.specs.Prelude.{◌≡◌, ◌≤◌, ◌<◌, length};
+ghost use Rattle.poison.specs.Shift.{put_at, pullAt};
+ghost use Rattle.poison.specs.Moved.{EntryAdded, EntryRemoved};
 
-// Puts v at place `at` of the n numbers held: those from there on move up by one slot.
-fn put_number(numbers: &mut [u32; 256], at: usize, n: usize, v: u32)
-    requires { (at ≤ n) × (n < 256) × (length numbers.old ≡ 256) }
-    ensures { numbers.new ≡ put_at at n v numbers.old }
-{
-    let mut i = n;
-    while at < i {
-        numbers[i] = numbers[i - 1];
-        i -= 1;
-    }
-    numbers[at] = v;
-}
+use crate::list::{Entry, PoisonList};
 
-// The same for types.
-fn put_kind(kinds: &mut [u8; 256], at: usize, n: usize, v: u8)
-    requires { (at ≤ n) × (n < 256) × (length kinds.old ≡ 256) }
-    ensures { kinds.new ≡ put_at at n v kinds.old }
+// Puts v at place `at` of the n elements held: those from there on move up by one slot.
+fn put<T: Copy>(slots: &mut [T], at: usize, n: usize, v: T)
+    requires { (at ≤ n) × (n < length slots.old) }
+    ensures { slots.new ≡ put_at at n v slots.old }
 {
-    let mut i = n;
-    while at < i {
-        kinds[i] = kinds[i - 1];
-        i -= 1;
-    }
-    kinds[at] = v;
+    slots.copy_within(at..n, at + 1);
+    slots[at] = v;
 }
 
 // Takes the element at place `at` away from the last + 1 held: those after it move down by one slot.
-fn pull_number(numbers: &mut [u32; 256], at: usize, last: usize)
-    requires { (at ≤ last) × (last < 256) × (length numbers.old ≡ 256) }
-    ensures { numbers.new ≡ pullAt at last numbers.old }
+fn pull<T: Copy>(slots: &mut [T], at: usize, last: usize)
+    requires { (at ≤ last) × (last < length slots.old) }
+    ensures { slots.new ≡ pullAt at last slots.old }
 {
-    let mut i = at;
-    while i < last {
-        numbers[i] = numbers[i + 1];
-        i += 1;
+    slots.copy_within(at + 1..last + 1, at);
+}
+
+impl PoisonList {
+    // Puts an entry at place `at`: the one way in which an entry comes into a list (a media report, an injection, a clearing that leaves both parts). The slots past the
+    // new last entry keep what they held.
+    pub(crate) fn put_entry(&mut self, at: usize, e: Entry)
+        requires { (at ≤ self.old.count) × (self.old.count < 256) }
+        ensures { EntryAdded self.old at e.start e.lines e.kind self.new }
+    {
+        put(&mut self.starts, at, self.count, e.start);
+        put(&mut self.lengths, at, self.count, e.lines);
+        put(&mut self.kinds, at, self.count, e.kind);
+        self.count += 1;
     }
-}
 
-// The same for types.
-fn pull_kind(kinds: &mut [u8; 256], at: usize, last: usize)
-    requires { (at ≤ last) × (last < 256) × (length kinds.old ≡ 256) }
-    ensures { kinds.new ≡ pullAt at last kinds.old }
-{
-    let mut i = at;
-    while i < last {
-        kinds[i] = kinds[i + 1];
-        i += 1;
+    // Takes the entry at place `at` away.
+    pub(crate) fn take_entry(&mut self, at: usize)
+        requires { (at < self.old.count) × (self.old.count ≤ 256) }
+        ensures { EntryRemoved self.old at self.new }
+    {
+        let last = self.count - 1;
+        pull(&mut self.starts, at, last);
+        pull(&mut self.lengths, at, last);
+        pull(&mut self.kinds, at, last);
+        self.count = last;
     }
-}
-
-// Puts an entry at place `at` of the n held: the one way in which an entry comes into a list (a media report, an injection, a clearing that leaves both parts). Entries
-// move within the arrays, and the slots past the new last entry keep what they held.
-pub(crate) fn put_entry(
-    starts: &mut [u32; 256],
-    lengths: &mut [u32; 256],
-    kinds: &mut [u8; 256],
-    at: usize,
-    n: usize,
-    start: u32,
-    lines: u32,
-    kind: u8,
-)
-    requires { (at ≤ n) × (n < 256) × (length starts.old ≡ 256) × (length lengths.old ≡ 256) × (length kinds.old ≡ 256) }
-    ensures { EntryPut at n start lines kind starts.old lengths.old kinds.old starts.new lengths.new kinds.new }
-{
-    put_number(starts, at, n, start);
-    put_number(lengths, at, n, lines);
-    put_kind(kinds, at, n, kind);
-}
-
-// Takes the entry at place `at` away from the last + 1 held.
-pub(crate) fn take_entry(
-    starts: &mut [u32; 256],
-    lengths: &mut [u32; 256],
-    kinds: &mut [u8; 256],
-    at: usize,
-    last: usize,
-)
-    requires { (at ≤ last) × (last < 256) × (length starts.old ≡ 256) × (length lengths.old ≡ 256) × (length kinds.old ≡ 256) }
-    ensures { EntryTaken at last starts.old lengths.old kinds.old starts.new lengths.new kinds.new }
-{
-    pull_number(starts, at, last);
-    pull_number(lengths, at, last);
-    pull_kind(kinds, at, last);
 }

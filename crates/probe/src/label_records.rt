@@ -15,9 +15,7 @@ pub(crate) fn put_area(out: &mut [u8], used: usize) -> usize
     requires { used + line_room ≤ length out.old }
     ensures { PutsLine used (numbers_line AR []) out.old out.new result }
 {
-    out[used] = b'A';
-    out[used + 1] = b'R';
-    output::end_line(out, used + 2)
+    output::put_numbers(out, used, b'A', b'R', &[])
 }
 
 // AB (offset 2, length 2): those bytes of the store.
@@ -27,8 +25,7 @@ pub(crate) fn put_stored(bytes: &[u8], store: &[u8], out: &mut [u8], used: usize
 {
     let offset = wire::get(bytes, 2, 2) as usize;
     let length = wire::get(bytes, 4, 2) as usize;
-    out[used] = b'A';
-    out[used + 1] = b'B';
-    let end = buffer::put_some(out, used + 2, &store[offset..offset + length], length);
+    let start = output::put_columns(out, used, b'A', b'B', &[]);
+    let end = buffer::put_some(out, start, &store[offset..], length);
     output::end_line(out, end)
 }

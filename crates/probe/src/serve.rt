@@ -25,7 +25,7 @@ use mailbox::device_calls::EventAnswer;
 use mailbox::line_status;
 use protocol::calls::Served;
 use protocol::formats::Format;
-use protocol::records::mark;
+use protocol::records::{AB, AR, CM, DT, ES, EV, LT, MD, NW, PC, RP, RQ, RW, WK, mark};
 use protocol::stream::{Stream, System};
 use protocol::{calls, formats, output, stream};
 use reply_records::{replies, rewrites};
@@ -33,7 +33,7 @@ use settings::vector::vector_number;
 
 // A record served: the device that follows, how many bytes of the label store are lent from then on, and the bytes of the output buffer that are not written yet, with
 // the record's line.
-#[derive(Clone, Copy)]
+#[derive(Clone, Copy, Debug, PartialEq, Eq)]
 pub struct ServedRecord {
     pub used: usize,
     pub device: Device,
@@ -46,13 +46,11 @@ fn make(bytes: &[u8], out: &mut [u8], used: usize) -> Served
     ensures { Serves (serve_new bytes.now) used result out.old out.new }
 {
     let made = calls::make(bytes);
-    let code = made.code as u64;
-    let numbers = [code];
+    let numbers = [u64::from(made.code)];
     let end = output::put_numbers(out, used, b'N', b'W', &numbers);
-    let next = made.device;
     Served {
         used: end,
-        device: next,
+        device: made.device,
     }
 }
 
@@ -80,8 +78,7 @@ fn command(
     ensures { Serves (serve_command (state_of device) area.old bytes.now) used result out.old out.new × (area.new ≡ area_left area.old bytes.now (command_call (state_of device) area.old bytes.now).code) }
 {
     let answer = call_command(device, bytes, area, reply);
-    let raised = answer.vector;
-    let vector = vector_number(raised) as u64;
+    let vector = u64::from(vector_number(answer.vector));
     let columns = buffer::put_buffer(
         out,
         used,
@@ -94,10 +91,9 @@ fn command(
     );
     let last = output::put_number(out, columns, vector);
     let end = output::end_line(out, last);
-    let next = answer.device;
     Served {
         used: end,
-        device: next,
+        device: answer.device,
     }
 }
 
@@ -123,10 +119,9 @@ fn command_lent(
         out,
         used,
     );
-    let next = served.device;
     ServedRecord {
         used: served.used,
-        device: next,
+        device: served.device,
         lent,
     }
 }
@@ -146,16 +141,13 @@ fn event(device: Device, bytes: &[u8], out: &mut [u8], used: usize) -> Served
     ensures { Serves (serve_event (state_of device) bytes.now) used result out.old out.new }
 {
     let answer = call_event(device, bytes);
-    let code = answer.code as u64;
     let stored = output::bit(answer.stored);
-    let raised = answer.vector;
-    let vector = vector_number(raised) as u64;
-    let numbers = [code, stored, vector];
+    let vector = u64::from(vector_number(answer.vector));
+    let numbers = [u64::from(answer.code), stored, vector];
     let end = output::put_numbers(out, used, b'E', b'V', &numbers);
-    let next = answer.device;
     Served {
         used: end,
-        device: next,
+        device: answer.device,
     }
 }
 
@@ -165,15 +157,15 @@ fn media(device: Device, bytes: &[u8], out: &mut [u8], used: usize) -> Served
     ensures { Serves (serve_media (state_of device) bytes.now) used result out.old out.new }
 {
     let answer = calls::media(device, bytes);
-    let code = answer.code as u64;
-    let stored = answer.stored as u64;
-    let dropped = answer.dropped as u64;
-    let numbers = [code, stored, dropped];
+    let numbers = [
+        u64::from(answer.code),
+        u64::from(answer.stored),
+        u64::from(answer.dropped),
+    ];
     let end = output::put_numbers(out, used, b'M', b'D', &numbers);
-    let next = answer.device;
     Served {
         used: end,
-        device: next,
+        device: answer.device,
     }
 }
 
@@ -183,11 +175,9 @@ fn line(device: Device, bytes: &[u8], out: &mut [u8], used: usize) -> Served
     ensures { Serves (serve_line (state_of device) bytes.now) used result out.old out.new }
 {
     let told = calls::line(device, bytes);
-    let answer = told.answer;
-    let code = told.code as u64;
-    let number = line_status::status_number(answer);
-    let kind = line_status::status_type(answer);
-    let numbers = [code, number, kind];
+    let number = line_status::status_number(told.answer);
+    let kind = line_status::status_type(told.answer);
+    let numbers = [u64::from(told.code), number, kind];
     let end = output::put_numbers(out, used, b'L', b'T', &numbers);
     Served { used: end, device }
 }
@@ -198,10 +188,9 @@ fn status(device: Device, out: &mut [u8], used: usize) -> Served
     ensures { Serves (serve_status (state_of device)) used result out.old out.new }
 {
     let told = device.event_status();
-    let bits = told.bits as u64;
-    let waiting = told.waiting as u64;
-    let highest = told.highest as u64;
-    let numbers = [bits, waiting, highest];
+    let waiting = u64::from(told.waiting);
+    let highest = u64::from(told.highest);
+    let numbers = [u64::from(told.bits), waiting, highest];
     let end = output::put_numbers(out, used, b'E', b'S', &numbers);
     Served { used: end, device }
 }
@@ -211,8 +200,7 @@ fn total(device: Device, out: &mut [u8], used: usize) -> Served
     requires { ValidDevice device × (used + line_room ≤ length out.old) }
     ensures { Serves (serve_total (state_of device)) used result out.old out.new }
 {
-    let sum = device.damage_total();
-    let numbers = [sum];
+    let numbers = [device.damage_total()];
     let end = output::put_numbers(out, used, b'D', b'T', &numbers);
     Served { used: end, device }
 }
@@ -229,26 +217,26 @@ fn serve_device(
     ensures { Serves (serve_device (state_of device) bytes.now) used result out.old out.new }
 {
     match mark(bytes) {
-        0x4E57 => make(bytes, out, used), // NW
-        0x4556 => event(device, bytes, out, used), // EV
-        0x4D44 => media(device, bytes, out, used), // MD
-        0x4C54 => line(device, bytes, out, used), // LT
-        0x4553 => status(device, out, used), // ES
-        0x4454 => total(device, out, used), // DT
-        0x5251 => { // RQ
+        NW => make(bytes, out, used),
+        EV => event(device, bytes, out, used),
+        MD => media(device, bytes, out, used),
+        LT => line(device, bytes, out, used),
+        ES => status(device, out, used),
+        DT => total(device, out, used),
+        RQ => {
             let room = wire::get(bytes, 4, 2) as usize;
             requests::request(device, bytes, &mut reply[..room], out, used)
         }
-        0x5250 => replies::read_reply(device, bytes, out, used), // RP
-        0x5257 => { // RW
+        RP => replies::read_reply(device, bytes, out, used),
+        RW => {
             let room = wire::get(bytes, 8, 2) as usize;
             rewrites::again(device, bytes, &mut reply[..room], out, used)
         }
-        0x574B => { // WK
+        WK => {
             let room = wire::get(bytes, 18, 4) as usize;
             walks::walk(device, bytes, &mut reply[..room], out, used)
         }
-        0x5043 => { // PC
+        PC => {
             let reply_room = wire::get(bytes, 12, 2) as usize;
             pool_records::pool(device, bytes, &mut reply[..reply_room], out, used)
         }
@@ -270,8 +258,8 @@ fn serve(
     ensures { Leaves (serve_record (kept_of device store.old lent) bytes.now) used result store.new out.old out.new }
 {
     match mark(bytes) {
-        0x434D => command_lent(device, lent, bytes, store, reply, out, used), // CM
-        0x4152 => { // AR
+        CM => command_lent(device, lent, bytes, store, reply, out, used),
+        AR => {
             let size = wire::get(bytes, 2, 4) as usize;
             let end = label_records::put_area(out, used);
             ServedRecord {
@@ -280,7 +268,7 @@ fn serve(
                 lent: size,
             }
         }
-        0x4142 => { // AB
+        AB => {
             let end = label_records::put_stored(bytes, store, out, used);
             ServedRecord {
                 used: end,
@@ -290,10 +278,9 @@ fn serve(
         }
         _ => {
             let served = serve_device(device, bytes, reply, out, used);
-            let next = served.device;
             ServedRecord {
                 used: served.used,
-                device: next,
+                device: served.device,
                 lent,
             }
         }
@@ -320,15 +307,13 @@ pub(crate) fn run(
         let found = formats::next(Format::Probe, s, system, input, out);
         let here = found.stream;
         let used = stream::make_room(system.output, out, here.used, LINE_ROOM);
-        let at = here.at;
         if found.size == 0 {
-            return output::stop(out, used, here.end - at, here.offset);
+            return output::stop(out, used, here.end - here.at, here.offset);
         }
         let mut rest = here.past(found.size);
-        let to = rest.at;
-        let served = serve(device, lent, &input[at..to], store, reply, out, used);
-        let next = served.device;
-        device = next;
+        let bytes = &input[here.at..rest.at];
+        let served = serve(device, lent, bytes, store, reply, out, used);
+        device = served.device;
         lent = served.lent;
         rest.used = served.used;
         s = rest;

@@ -2,18 +2,20 @@
 use mathlib.Core.Path.{◌≡◌, refl, sym, ap, ap₂, ◌∙◌}
 use mathlib.Core.Bool.{Bool, true, false, cond}
 use mathlib.Core.List.{List, [], ◌∷◌, ◌++◌, append-nil, append_assoc}
-use Prim.Native.Nat.{ℕ, zero, suc, ◌+◌, ◌-◌, ◌*◌, ◌/◌, ◌%◌, ◌^◌, ◌≤◌, ◌<◌}
+use Prim.Native.Nat.{ℕ, zero, suc, ◌+◌, ◌*◌, ◌/◌, ◌%◌, ◌^◌, ◌≤◌, ◌<◌}
 use native.Mathlib.Nat.{add-zero}
 use native.Mathlib.Numerals.{add-one}
 use native.Mathlib.Omega.{arith}
 use lib.Dec.{ltb}
-use lib.ListN.{length, take, get_or, set, length-append, length-set, length-take}
-use lib.Seq.{sets, take_all, take-suc}
+use borrow.Rule.Slice.PartMut.{put_mid}
+use lib.ListN.{length, take, drop, get_or, set, length-append, length-take}
+use lib.Seq.{take_all, take-suc}
 use borrow.Author.Tests.{lt-ltb, le-ltb, eq-eqb, ne_eqb}
+use Rattle.std.proofs.lemmas.Slice.{put_mid-paste}
 use Rattle.std.specs.Fmt.{decimal as printed_decimal}
 use Rattle.std.proofs.lemmas.Fmt.{AppendsLastDigit, decimal_from_appends, length-decimal-le}
 use Rattle.wire.specs.Wire.{part, splice}
-use Rattle.wire.proofs.Laws.{stores, joined, part_step, part_none}
+use Rattle.wire.proofs.Laws.{stores, joined}
 use Rattle.protocol.specs.Text.{numeral, decimal, column, bytes_column, columns, hex, hex_digit, bad_line, last_line}
 use Rattle.protocol.specs.Relations.{Puts, PutsLine}
 
@@ -25,15 +27,18 @@ puts_nothing at d h = record { bytes = stores at [] d (omega arith); end = sym (
 pub puts_one : (at b : ℕ) (d : List ℕ) → at < length d → Puts at (b ∷ []) d (set d at b) (at + 1)
 puts_one at b d h = record { bytes = stores at (b ∷ []) d (omega arith); end = refl }
 
--- two bytes stored, and three: the letters of a mark, and of BAD
+-- two bytes stored: the letters of a mark
 pub puts_two : (at a b : ℕ) (d : List ℕ) → at + 1 < length d → Puts at (a ∷ b ∷ []) d (set (set d at a) (at + 1) b) (at + 2)
 puts_two at a b d h = record { bytes = ap (λ (j : ℕ). set (set d at a) j b) (add-one at) ∙ stores at (a ∷ b ∷ []) d (omega arith); end = refl }
 
-pub puts_three : (at a b c : ℕ) (d : List ℕ) → at + 2 < length d → Puts at (a ∷ b ∷ c ∷ []) d (set (set (set d at a) (at + 1) b) (at + 2) c) (at + 3)
-puts_three at a b c d h =
+-- bytes copied over as many
+pub puts_copied : (at k : ℕ) {m : ℕ} {text d now : List ℕ} → now ≡ text → k ≡ length text → m ≡ at + length text → Puts at text d (put_mid at k d now) m
+unfolding splice
+puts_copied at k {text = text} {d = d} {now = now} e f end =
     record {
-      bytes = ap₂ (λ (i j : ℕ). set (set (set d at a) i b) j c) (add-one at) (omega arith) ∙ stores at (a ∷ b ∷ c ∷ []) d (omega arith);
-      end = refl;
+      bytes =
+          put_mid-paste at k d now text k e refl f ∙ ap₂ (λ (l : List ℕ) (n : ℕ). take at d ++ l ++ drop (at + n) d) (take_all k text (omega arith)) f;
+      end = end;
     }
 
 -- one piece after another
@@ -70,7 +75,7 @@ length_numeral (suc k) n = either (ltb n 10) (length_numeral k (n / 10))
 pub length_column : (n : ℕ) → length (column n) ≤ 21
 length_column n = omega (arith, length_numeral 20 n)
 
--- what `put_number` does: a blank, then the digits
+-- a blank, then the digits of a number
 pub puts_number : (at n : ℕ) (ds out after : List ℕ) → at + 21 ≤ length out → ds ≡ decimal n → after ≡ splice (at + 1) (part 0 (length ds) ds) (set out at 32)
     → Puts at (column n) out after (at + 1 + length ds)
 unfolding part
@@ -86,28 +91,14 @@ unfolding hex
 length_hex [] = refl
 length_hex (b ∷ bs) = omega (arith, length_hex bs)
 
--- a turn of the loop that puts bytes in hexadecimal, backwards: what is left to put over what is there now is what all is over what was there
-pub hex_turn : (out end bytes : List ℕ) (at i n high low : ℕ) → i < n → n ≤ length bytes → high ≡ hex_digit (get_or bytes i 0 / 16)
-    → low ≡ hex_digit (get_or bytes i 0 % 16) → sets out (at + 1 + 2 * i) (hex (part i (n - i) bytes)) ≡ end
-    → sets (set (set out (at + 1 + 2 * i) high) (at + 1 + 2 * i + 1) low) (at + 1 + 2 * (i + 1)) (hex (part (i + 1) (n - (i + 1)) bytes)) ≡ end
+-- one byte more
+pub hex_more : (bs : List ℕ) (i : ℕ) → i < length bs → hex (take (i + 1) bs) ≡ hex (take i bs) ++ (hex_digit (get_or bs i 0 / 16) ∷ hex_digit (get_or bs i 0 % 16) ∷ [])
 unfolding hex
-hex_turn out end bytes at i n high low less fits eh el h =
-    ap₂ (λ (a b : ℕ). sets (set (set out (at + 1 + 2 * i) high) a low) b (hex (part (i + 1) (n - (i + 1)) bytes))) (add-one (at + 1 + 2 * i)) (omega arith)
-    ∙ ap₂ (λ (a b : ℕ). sets out (at + 1 + 2 * i) (a ∷ b ∷ hex (part (i + 1) (n - (i + 1)) bytes))) eh el
-    ∙ ap (λ (l : List ℕ). sets out (at + 1 + 2 * i) (hex l)) (sym (part_step i (n - (i + 1)) bytes (omega arith) (omega arith)))
-    ∙ h
-
--- the end of that loop
-pub puts_hex : (out after bytes : List ℕ) (at n i : ℕ) → n ≤ length bytes → at + 1 + 2 * n ≤ length out → i ≤ n → n ≤ i
-    → sets after (at + 1 + 2 * i) (hex (part i (n - i) bytes)) ≡ sets (set out at 32) (at + 1) (hex (part 0 n bytes))
-    → Puts at (32 ∷ hex (take n bytes)) out after (at + 1 + 2 * n)
-unfolding hex part
-puts_hex out after bytes at n i fits room low high h =
-    let done : sets after (at + 1 + 2 * i) (hex (part i (n - i) bytes)) ≡ after = ap (λ (l : List ℕ). sets after (at + 1 + 2 * i) (hex l)) (part_none i (n - i) bytes (omega arith)) in
-    let long : length (hex (take n bytes)) ≡ 2 * n = rw (length_hex, length-take) (omega arith) in
-    let rest : Puts (at + 1) (hex (take n bytes)) (set out at 32) after (at + 1 + 2 * n) =
-    record { bytes = sym done ∙ h ∙ stores (at + 1) (hex (take n bytes)) (set out at 32) (rw (long, length-set) (omega arith)); end = ap (λ (j : ℕ). at + 1 + j) (sym long) } in
-    puts_then (puts_one at 32 out (omega arith)) rest (omega (arith, long))
+hex_more bs i h = ap (λ (k : ℕ). hex (take k bs)) (add-one i) ∙ ap hex (take-suc bs i 0 h) ∙ split (take i bs) (get_or bs i 0)
+  where
+    split : (l : List ℕ) (b : ℕ) → hex (l ++ (b ∷ [])) ≡ hex l ++ (hex_digit (b / 16) ∷ hex_digit (b % 16) ∷ [])
+    split [] b = refl
+    split (a ∷ l) b = ap (λ (x : List ℕ). hex_digit (a / 16) ∷ hex_digit (a % 16) ∷ x) (split l b)
 
 -- a line that is no longer than the room made for it lies in the buffer
 pub fits_room : (room : ℕ) {at r : ℕ} {text before after : List ℕ} → Puts at text before after r → length text ≤ room → at + room ≤ length before → PutsLine at text before after r
@@ -144,12 +135,6 @@ pub length_columns : (ns : List ℕ) → length (columns ns) ≤ 21 * length ns
 unfolding columns
 length_columns [] = omega arith
 length_columns (n ∷ ns) = rw length-append (omega (arith, length_column n, length_columns ns))
-
--- where the first i columns end
-pub taken_columns : (ns : List ℕ) (i : ℕ) {at r : ℕ} {before after : List ℕ} → Puts at (columns (take i ns)) before after r → i ≤ length ns → r ≤ at + 21 * i
-taken_columns ns i put fits =
-    let some : length (take i ns) ≡ i = rw length-take (omega arith) in
-    omega (arith, put.end, length_columns (take i ns), some)
 
 -- a column of some bytes, and how long it is at most
 some_column : (none l : List ℕ) → 0 < length l → 32 ∷ hex l ≡ bytes_column none l

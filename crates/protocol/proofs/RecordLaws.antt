@@ -9,11 +9,13 @@ use native.Mathlib.Decide.{dec_le, ℕ_discrete}
 use lib.ListN.{length, take, drop, length-take, length-append}
 use lib.Seq.{take-take, get_or-take}
 use borrow.Author.Tests.{eq-eqb, ne_eqb, le-leb, lt-leb}
+use Rattle.std.specs.Prelude.{Option, unwrap_or}
+use Rattle.std.proofs.lemmas.Bool.Decides.{nat_tests}
 use Rattle.wire.specs.Wire.{part}
 use Rattle.protocol.specs.declared.stream.Stream.{Stream}
 use Rattle.protocol.specs.declared.records.Found.{Found}
 use Rattle.protocol.specs.Stream.{Fits, unread, count_left, left, Wants, Past}
-use Rattle.protocol.specs.Records.{mark_of, whole, tells, told_fixed, told_head, front_fixed, front_head, front_size, OneRecord}
+use Rattle.protocol.specs.Records.{some_size, mark_of, whole, tells, told_fixed, told_head, front_fixed, front_head, front_size, OneRecord}
 use Rattle.protocol.specs.Relations.{Finds, FindsBytes}
 use Rattle.protocol.proofs.StreamLaws.{continues_then, length_left, front_more}
 
@@ -41,6 +43,10 @@ tells_none f n l e = rw (eq-eqb (whole n l) 0 e)
 tells_told : (f : List ℕ → ℕ) (n : ℕ) (l : List ℕ) → (whole n l ≡ 0 → ⊥) → tells f n l ≡ f (take n l)
 unfolding tells
 tells_told f n l some = rw (ne_eqb (whole n l) 0 some)
+
+-- the number of a size told
+pub number_told : {n m : ℕ} {r : Option ℕ} → m ≡ unwrap_or r 0 → r ≡ some_size n → m ≡ n
+number_told p q = grind (arith, nat_tests)
 
 -- ---- readings that look at no byte past what they give
 

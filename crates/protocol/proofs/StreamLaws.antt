@@ -1,38 +1,18 @@
 -- The bytes of the input that are left, as more is read: moved to the front, kept by a read, and the first of those that are left then.
 -- Assumes nothing.
-use mathlib.Core.Path.{◌≡◌, refl, sym, ap, ap₂, ◌∙◌}
+use mathlib.Core.Path.{◌≡◌, refl, sym, ap, ◌∙◌}
 use mathlib.Core.Bool.{Bool}
 use mathlib.Core.Logic.{inl, inr, ⊎_elim}
-use mathlib.Core.List.{List, [], ◌∷◌, ◌++◌}
-use Prim.Native.Nat.{ℕ, ◌+◌, ◌-◌, ◌≤◌, ◌<◌}
-use native.Mathlib.Numerals.{add-one}
+use mathlib.Core.List.{List, ◌++◌}
+use Prim.Native.Nat.{ℕ, ◌+◌, ◌-◌, ◌≤◌}
 use native.Mathlib.Omega.{arith}
-use lib.ListN.{length, take, drop, get_or, set, length-take, length-drop, take-append-drop}
-use lib.Seq.{take-suc, take-suc-set, drop-set-lt, take-append-le, take_all, take-take, drop-drop, get_or-take, get_or-drop}
+use lib.ListN.{length, take, drop, length-take, take-append-drop}
+use lib.Seq.{take-append-le, take_all, take-take}
 use Rattle.wire.specs.Wire.{number, part, field}
 use Rattle.wire.proofs.Laws.{length_part}
 use Rattle.wire.proofs.Splice.{part_front}
 use Rattle.protocol.specs.declared.stream.Stream.{Stream}
 use Rattle.protocol.specs.Stream.{Fits, count_left, left, Reads, Continues}
-
--- a turn of the loop that moves bytes to the front: the first i are moved, and from index i on all is as it was
-pub moved_more : (d d₀ : List ℕ) (at i : ℕ) → at + i < length d₀ → i < length d → take i d ≡ part at i d₀ → drop i d ≡ drop i d₀
-    → take (i + 1) (set d i (get_or d (at + i) 0)) ≡ part at (i + 1) d₀
-unfolding part
-moved_more d d₀ at i room fits h same =
-    ap (λ (k : ℕ). take k (set d i (get_or d (at + i) 0))) (add-one i)
-    ∙ take-suc-set d i (get_or d (at + i) 0) fits
-    ∙ ap₂ (λ (l : List ℕ) (x : ℕ). l ++ (x ∷ [])) h (value ∙ sym (get_or-drop at d₀ i 0))
-    ∙ sym (take-suc (drop at d₀) i 0 (rw length-drop (omega arith)))
-    ∙ ap (λ (k : ℕ). take k (drop at d₀)) (sym (add-one i))
-  where
-    value : get_or d (at + i) 0 ≡ get_or d₀ (at + i) 0
-    value =
-        let e : at + i ≡ i + at = omega arith in
-        rw e (sym (get_or-drop i d at 0) ∙ ap (λ (l : List ℕ). get_or l at 0) same ∙ get_or-drop i d₀ at 0)
-
-pub moved_rest : (d d₀ : List ℕ) (i x : ℕ) → drop i d ≡ drop i d₀ → drop (i + 1) (set d i x) ≡ drop (i + 1) d₀
-moved_rest d d₀ i x same = drop-set-lt (i + 1) d i x (omega arith) ∙ sym (drop-drop 1 i d) ∙ ap (drop 1) same ∙ drop-drop 1 i d₀
 
 -- one read after another: x is any place up to which bytes were read
 pub reads_then : {end e r : ℕ} {before between after : List ℕ} (x : ℕ) → Reads end before between e → Reads e between after r → length between ≡ length before
@@ -44,21 +24,13 @@ reads_then {end} {e} {r} {before} {between} {after} x p q long more room =
       kept = sym (take-take end e after p.more) ∙ ap (take end) q.kept ∙ take-take end e between p.more ∙ p.kept;
     }
 
--- a field, and an element, of the first elements of a list
+-- a field of the first elements of a list
 pub field_front : (n i k : ℕ) (l front : List ℕ) → take n l ≡ front → i + k ≤ n → n ≤ length l → field l i k ≡ field front i k
 unfolding field
 field_front n i k l front e h fits =
     ap (λ (x : List ℕ). number (part i k x)) (sym (take-append-drop n l))
     ∙ ap number (part_front i k (take n l) (drop n l) (rw length-take (omega arith)))
     ∙ ap (λ (x : List ℕ). number (part i k x)) e
-
-pub get_d_front : (n i : ℕ) (l front : List ℕ) → take n l ≡ front → i < n → get_or l i 0 ≡ get_or front i 0
-get_d_front n i l front e h = sym (get_or-take n l i 0 h) ∙ ap (λ (x : List ℕ). get_or x i 0) e
-
--- an element of a part
-pub get_d_part : (at n i : ℕ) (l : List ℕ) → i < n → get_or (part at n l) i 0 ≡ get_or (drop at l) i 0
-unfolding part
-get_d_part at n i l h = get_or-take n (drop at l) i 0 h
 
 -- the first elements stay so whatever comes after
 pub front_more : (n : ℕ) (l more front : List ℕ) → take n l ≡ front → n ≤ length l → take n (l ++ more) ≡ front

@@ -1,6 +1,6 @@
 -- Records one after another, each a two-byte mark and its fields (document 01, "Bench program"; document 10, "Rules"): which record stands at the front of
 -- some bytes, by sizes that `Formats` gives for each program. Assumes nothing.
-use Rattle.std.specs.Prelude.{ℕ, ◌+◌, ◌*◌, ◌<◌, ◌≡◌, cond, List, [], ◌∷◌, eqb, leb, length, take, get_or}
+use Rattle.std.specs.Prelude.{ℕ, ◌+◌, ◌*◌, ◌<◌, ◌≡◌, cond, Option, Some, None, List, [], ◌∷◌, eqb, leb, length, take, get_or}
 
 -- "a two-byte mark in ASCII": the two bytes as one number, the first letter above the second
 abbrev pub mark_of : List ℕ → ℕ
@@ -49,6 +49,10 @@ AB = 65 ∷ 66 ∷ []
 
 abbrev pub PC : List ℕ
 PC = 80 ∷ 67 ∷ []
+
+-- a size that a number tells, where 0 stands for none
+abbrev pub some_size : ℕ → Option ℕ
+some_size n = cond (eqb n 0) None (Some n)
 
 -- n bytes at the front, or 0 where they are cut
 unfoldable pub whole : ℕ → List ℕ → ℕ

@@ -1,12 +1,12 @@
 -- What the functions of this crate ensure: records of equations between their answers, the buffers that they are lent and the definitions. Assumes nothing.
-use Rattle.std.specs.Prelude.{ℕ, ◌+◌, ◌≤◌, ◌≡◌, true, ◌⊎◌, List, ◌++◌, length}
+use Rattle.std.specs.Prelude.{ℕ, ◌+◌, ◌≤◌, ◌≡◌, true, ◌⊎◌, Option, List, ◌++◌, length}
 use Rattle.wire.specs.Wire.{splice}
 use Rattle.mailbox.specs.State.{DeviceState, ValidDevice, state_of}
 use Rattle.protocol.specs.declared.calls.Served.{Served}
 use Rattle.protocol.specs.declared.stream.Stream.{Stream}
 use Rattle.protocol.specs.declared.records.Found.{Found}
 use Rattle.protocol.specs.Stream.{count_left, left, Continues}
-use Rattle.protocol.specs.Records.{whole}
+use Rattle.protocol.specs.Records.{some_size, whole}
 use Rattle.protocol.specs.Runs.{Printed}
 
 -- text put into the output buffer from index at on: every byte of the buffer, and the place after the text
@@ -18,6 +18,11 @@ pub record Puts (at : ℕ) (text before after : List ℕ) (r : ℕ) : Type 0 whe
 pub record PutsLine (at : ℕ) (text before after : List ℕ) (r : ℕ) : Type 0 where
   pub puts : Puts at text before after r
   pub room : r ≤ length before
+
+-- a size told: of n bytes, none where n is 0; so many fit the input buffer
+pub record Sizes (n : ℕ) (r : Option ℕ) : Type 0 where
+  pub told : r ≡ some_size n
+  pub most : n ≤ 65536
 
 -- what is found at a stream's place: how many bytes a reading of those left there gives, and would give with any more bytes after them unless the input has
 -- ended; so many are in the input buffer

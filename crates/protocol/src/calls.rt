@@ -11,7 +11,7 @@ use mailbox::device::{Device, Made};
 use mailbox::device_calls::{LineAnswer, MediaAnswer};
 
 // A record served: the device that follows, and the bytes of the output buffer that are not written yet, with the record's line.
-#[derive(Clone, Copy)]
+#[derive(Clone, Copy, Debug, PartialEq, Eq)]
 pub struct Served {
     pub used: usize,
     pub device: Device,

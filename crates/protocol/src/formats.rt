@@ -1,138 +1,132 @@
 // The records of each program (document 01, "Bench program"; document 10, "Records of the base"): how long each is, and the next one brought whole into
 // the input buffer. The sizes of the records of the host library are in `host_formats`, those of the label store's records in `label_formats`.
-ghost use Rattle.std.specs.Prelude.{◌≡◌, true, ◌≤◌, eqb, length};
+#![tactic(auto, unfolding(crate::proofs::FormatLaws::sizes, crate::specs::Formats::head, crate::specs::Records::whole))]
+
+ghost use Rattle.std.specs.Prelude.{◌≡◌, true, cond, ◌≤◌, eqb, length};
 ghost use Rattle.protocol.specs.declared.formats.Format.TheVariants.{Bench, Probe};
 ghost use Rattle.protocol.specs.Stream.{Fits};
-ghost use Rattle.protocol.specs.Records.{mark_of, EV, front_fixed, front_head, front_size};
+ghost use Rattle.protocol.specs.Records.{some_size, mark_of, front_fixed, front_head, front_size};
+ghost use Rattle.protocol.specs.HostFormats.{within};
 ghost use Rattle.protocol.specs.Formats.{bench_fixed, bench_size, of_command, probe_least, probe_fixed, probe_size, fixed, head, size, FixedPart, Head};
-ghost use Rattle.protocol.specs.Relations.{Finds};
+ghost use Rattle.protocol.specs.Relations.{Sizes, Finds};
 
-use crate::records::Found;
+use crate::records::{AB, AR, CM, DT, ES, EV, Found, LT, MD, NW, PC, RP, RQ, RW, WK, mark};
 use crate::stream::{Stream, System};
-use crate::{host_formats, label_formats, records};
+use crate::{host_formats, label_formats};
 
 // Whose records they are.
-#[derive(Clone, Copy)]
+#[derive(Clone, Copy, Debug, PartialEq, Eq)]
 pub enum Format {
     Bench,
     Probe,
 }
 
-// Of `bench`: the bytes of a record's fixed part, its mark with them; 0 where no record of that mark may stand. NW comes first and once.
-fn bench_fixed(first: bool, mark: u64) -> usize
-    ensures { result ≡ bench_fixed first mark }
+// Of `bench`: the bytes of a record's fixed part, its mark with them; none where no record of that mark may stand. NW comes first and once.
+fn bench_fixed(first: bool, mark: u64) -> Option<usize>
+    ensures { result ≡ some_size (bench_fixed first mark) }
 {
-    if first {
-        return if mark == 0x4E57 { 6 } else { 0 };
-    }
-    match mark {
-        0x434D => 14, // CM
-        0x4556 => 139, // EV
-        0x4D44 => 23, // MD
-        0x4C54 => 10, // LT
-        _ => 0,
+    match (first, mark) {
+        (true, NW) => Some(6),
+        (false, CM) => Some(14),
+        (false, EV) => Some(139),
+        (false, MD) => Some(23),
+        (false, LT) => Some(10),
+        _ => None,
     }
 }
 
-// Of `bench`: the bytes of a record that begins so; 0 where its payload is too long.
-fn bench_size(head: &[u8]) -> usize
+// Of `bench`: the bytes of a record that begins so; none where its payload is too long.
+fn bench_size(head: &[u8]) -> Option<usize>
     requires { Head Bench head.now }
-    ensures { (result ≡ bench_size head.now) × (result ≤ 65536) }
+    ensures { Sizes (bench_size head.now) result }
 {
-    let fixed = head.len();
-    if records::mark(head) != 0x434D {
-        return fixed;
+    if mark(head) != CM {
+        return Some(head.len());
     }
     let payload = wire::get(head, 12, 2) as usize;
     if 2048 < payload {
-        return 0;
+        return None;
     }
-    fixed + payload
+    Some(head.len() + payload)
 }
 
-// Of `probe`: the bytes of a record's fixed part, its mark with them; 0 for an unknown mark.
-fn probe_least(mark: u64) -> usize
-    ensures { result ≡ probe_least mark }
+// Of `probe`: the bytes of a record's fixed part, its mark with them; none for an unknown mark.
+fn probe_least(mark: u64) -> Option<usize>
+    ensures { result ≡ some_size (probe_least mark) }
 {
     match mark {
-        0x4E57 => 6, // NW
-        0x434D => 17, // CM
-        0x4556 => 13, // EV
-        0x4D44 => 23, // MD
-        0x4C54 => 10, // LT
-        0x4553 => 2, // ES
-        0x4454 => 2, // DT
-        0x5251 => 7, // RQ
-        0x5250 => 10, // RP
-        0x5257 => 13, // RW
-        0x574B => 23, // WK
-        0x4152 => 6, // AR
-        0x4142 => 6, // AB
-        0x5043 => 17, // PC
-        _ => 0,
+        NW => Some(6),
+        CM | PC => Some(17),
+        EV => Some(13),
+        MD => Some(23),
+        LT => Some(10),
+        ES | DT => Some(2),
+        RQ => Some(7),
+        RP => Some(10),
+        RW => Some(13),
+        WK => Some(23),
+        AR | AB => Some(6),
+        _ => None,
     }
 }
 
 // The same, where the first record must be a make.
-fn probe_fixed(first: bool, mark: u64) -> usize
-    ensures { result ≡ probe_fixed first mark }
+fn probe_fixed(first: bool, mark: u64) -> Option<usize>
+    ensures { result ≡ some_size (probe_fixed first mark) }
 {
-    if first {
-        return if mark == 0x4E57 { 6 } else { 0 };
+    if first && mark != NW {
+        return None;
     }
     probe_least(mark)
 }
 
-// Of `probe`: the bytes of a command's record, CM or PC, that begins so; 0 where its room or its payload is too long.
-fn command_size(head: &[u8]) -> usize
+// Of `probe`: a room or a length, none where it is over its limit.
+pub(crate) fn within(n: u64) -> Option<usize>
+    ensures { result ≡ cond (within n) (Some n) None }
+{
+    if n <= 4096 { Some(n as usize) } else { None }
+}
+
+// Of `probe`: the bytes of a command's record, CM or PC, that begins so; none where its room or its payload is too long.
+fn command_size(head: &[u8]) -> Option<usize>
     requires { Head Probe head.now × (17 ≤ length head.now) × (of_command (mark_of head.now) ≡ true) }
-    ensures { (result ≡ probe_size head.now) × (result ≤ 65536) }
+    ensures { Sizes (probe_size head.now) result }
 {
-    let room = wire::get(head, 12, 2) as usize;
-    let payload = wire::get(head, 15, 2) as usize;
-    if 4096 < room {
-        return 0;
-    }
-    if 4096 < payload {
-        return 0;
-    }
-    head.len() + payload
+    within(wire::get(head, 12, 2))?; // the room
+    let payload = within(wire::get(head, 15, 2))?;
+    Some(head.len() + payload)
 }
 
-// Of `probe`: the bytes of an event's record that begins so; 0 where the event record in it is too long.
-fn event_size(head: &[u8]) -> usize
-    requires { Head Probe head.now × (mark_of head.now ≡ mark_of EV) }
-    ensures { (result ≡ probe_size head.now) × (result ≤ 65536) }
+// Of `probe`: the bytes of an event's record that begins so; none where the event record in it is too long.
+fn event_size(head: &[u8]) -> Option<usize>
+    requires { Head Probe head.now × (mark_of head.now ≡ EV) }
+    ensures { Sizes (probe_size head.now) result }
 {
-    let length = wire::get(head, 11, 2) as usize;
-    if 4096 < length {
-        return 0;
-    }
-    head.len() + length
+    let length = within(wire::get(head, 11, 2))?;
+    Some(head.len() + length)
 }
 
-// Of `probe`: the bytes of a record that begins so; 0 where a size in it is over its limit.
-fn probe_size(head: &[u8]) -> usize
+// Of `probe`: the bytes of a record that begins so; none where a size in it is over its limit.
+fn probe_size(head: &[u8]) -> Option<usize>
     requires { Head Probe head.now }
-    ensures { (result ≡ probe_size head.now) × (result ≤ 65536) }
+    ensures { Sizes (probe_size head.now) result }
 {
-    match records::mark(head) {
-        0x434D => command_size(head), // CM
-        0x4556 => event_size(head), // EV
-        0x5251 => host_formats::request_size(head), // RQ
-        0x5250 => host_formats::reply_size(head), // RP
-        0x5257 => host_formats::again_size(head), // RW
-        0x574B => host_formats::walk_size(head), // WK
-        0x4152 => label_formats::area_size(head), // AR
-        0x4142 => label_formats::bytes_size(head), // AB
-        0x5043 => command_size(head), // PC
-        _ => head.len(),
+    match mark(head) {
+        CM | PC => command_size(head),
+        EV => event_size(head),
+        RQ => host_formats::request_size(head),
+        RP => host_formats::reply_size(head),
+        RW => host_formats::again_size(head),
+        WK => host_formats::walk_size(head),
+        AR => label_formats::area_size(head),
+        AB => label_formats::bytes_size(head),
+        _ => Some(head.len()),
     }
 }
 
-// The bytes of a record's fixed part; 0 where no record of that mark may stand.
-fn fixed_size(format: Format, first: bool, mark: u64) -> usize
-    ensures { result ≡ fixed format first mark }
+// The bytes of a record's fixed part; none where no record of that mark may stand.
+fn fixed_size(format: Format, first: bool, mark: u64) -> Option<usize>
+    ensures { result ≡ some_size (fixed format first mark) }
 {
     match format {
         Format::Bench => bench_fixed(first, mark),
@@ -141,20 +135,20 @@ fn fixed_size(format: Format, first: bool, mark: u64) -> usize
 }
 
 // The bytes of the head of a record that begins so.
-fn head_size(format: Format, part: &[u8]) -> usize
+fn head_size(format: Format, part: &[u8]) -> Option<usize>
     requires { FixedPart format part.now }
-    ensures { (result ≡ head format part.now) × (result ≤ 65536) }
+    ensures { Sizes (head format part.now) result }
 {
     match format {
-        Format::Bench => part.len(),
+        Format::Bench => Some(part.len()),
         Format::Probe => host_formats::probe_head(part),
     }
 }
 
-// The bytes of a record that begins so; 0 where a size in it is over its limit.
-fn whole_size(format: Format, head: &[u8]) -> usize
+// The bytes of a record that begins so; none where a size in it is over its limit.
+fn whole_size(format: Format, head: &[u8]) -> Option<usize>
     requires { Head format head.now }
-    ensures { (result ≡ size format head.now) × (result ≤ 65536) }
+    ensures { Sizes (size format head.now) result }
 {
     match format {
         Format::Bench => bench_size(head),
@@ -173,8 +167,8 @@ fn next_fixed(format: Format, s: Stream, system: System, input: &mut [u8], out: 
     }
     let here = marked.stream;
     let at = here.at;
-    let fixed = fixed_size(format, s.offset == 0, records::mark(&input[at..at + 2]));
-    here.whole(system, input, out, fixed)
+    let fixed = fixed_size(format, s.offset == 0, mark(&input[at..at + 2]));
+    here.whole(system, input, out, fixed.unwrap_or(0))
 }
 
 // The head of the next record.
@@ -190,7 +184,7 @@ fn next_head(format: Format, s: Stream, system: System, input: &mut [u8], out: &
     let here = part.stream;
     let at = here.at;
     let size = head_size(format, &input[at..at + n]);
-    here.whole(system, input, out, size)
+    here.whole(system, input, out, size.unwrap_or(0))
 }
 
 // The next record.
@@ -206,5 +200,5 @@ pub fn next(format: Format, s: Stream, system: System, input: &mut [u8], out: &[
     let here = head.stream;
     let at = here.at;
     let size = whole_size(format, &input[at..at + n]);
-    here.whole(system, input, out, size)
+    here.whole(system, input, out, size.unwrap_or(0))
 }

@@ -12,8 +12,9 @@ pub fn put_number(out: &mut [u8], at: usize, n: u64) -> usize
     let digits = buffer.format(n).as_bytes();
     let k = digits.len();
     out[at] = b' ';
-    wire::copy(digits, 0, k, out, at + 1);
-    at + 1 + k
+    let end = at + 1 + k;
+    out[at + 1..end].copy_from_slice(digits);
+    end
 }
 
 // A hexadecimal digit, in lower case.
@@ -30,15 +31,13 @@ pub fn put_bytes(out: &mut [u8], at: usize, bytes: &[u8], n: usize) -> usize
     ensures { Puts at (32 ∷ hex (take n bytes.now)) out.old out.new result }
 {
     out[at] = b' ';
-    let mut i: usize = 0;
-    while i < n {
-        let b = bytes[i];
-        let to = at + 1 + 2 * i;
+    let mut to = at + 1;
+    for &b in &bytes[..n] {
         out[to] = digit(b / 16);
         out[to + 1] = digit(b % 16);
-        i += 1;
+        to += 2;
     }
-    at + 1 + 2 * n
+    to
 }
 
 // A column for each number.
@@ -47,10 +46,8 @@ pub fn put_each(out: &mut [u8], at: usize, numbers: &[u64]) -> usize
     ensures { Puts at (columns numbers.now) out.old out.new result }
 {
     let mut to = at;
-    let mut i: usize = 0;
-    while i < numbers.len() {
-        to = put_number(out, to, numbers[i]);
-        i += 1;
+    for &n in numbers {
+        to = put_number(out, to, n);
     }
     to
 }
@@ -78,7 +75,7 @@ pub fn put_numbers(out: &mut [u8], at: usize, first: u8, second: u8, numbers: &[
 pub fn bit(b: bool) -> u64
     ensures { result ≡ cond b 1 0 }
 {
-    if b { 1 } else { 0 }
+    u64::from(b)
 }
 
 // A line's end.
@@ -95,9 +92,7 @@ pub fn put_bad(out: &mut [u8], at: usize, offset: u64) -> usize
     requires { at + 25 ≤ length out.old }
     ensures { Puts at (bad_line offset) out.old out.new result }
 {
-    out[at] = b'B';
-    out[at + 1] = b'A';
-    out[at + 2] = b'D';
+    out[at..at + 3].copy_from_slice(b"BAD");
     let end = put_number(out, at + 3, offset);
     end_line(out, end)
 }

@@ -16,7 +16,7 @@ pub struct System {
 
 // The bytes at..end of the input buffer are not used yet; `at` lies `offset` bytes into the input; the first `used` bytes of the output buffer
 // are not written yet; `ended` says that a read brought no byte.
-#[derive(Clone, Copy)]
+#[derive(Clone, Copy, Debug, PartialEq, Eq)]
 pub struct Stream {
     pub at: usize,
     pub end: usize,
@@ -26,7 +26,7 @@ pub struct Stream {
 }
 
 // What was read into the input buffer: its new end, and whether the last read brought no byte.
-#[derive(Clone, Copy)]
+#[derive(Clone, Copy, Debug, PartialEq, Eq)]
 pub struct Filled {
     pub end: usize,
     pub ended: bool,
@@ -58,11 +58,7 @@ fn move_down(input: &mut [u8], at: usize, n: usize)
     requires { at + n ≤ length input.old }
     ensures { take n input.new ≡ part at n input.old }
 {
-    let mut i: usize = 0;
-    while i < n {
-        input[i] = input[at + i];
-        i += 1;
-    }
+    input.copy_within(at..at + n, 0);
 }
 
 // Reads once into the buffer from index end on: how many bytes came, 0 at the end of the input.

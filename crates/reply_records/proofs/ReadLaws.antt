@@ -18,23 +18,15 @@ use Rattle.host_replies.specs.declared.counted.Kind.{Kind}
 use Rattle.host_replies.specs.declared.reply.SupportedLog.{SupportedLog}
 use Rattle.host_replies.specs.declared.reply.PoisonRecord.{PoisonRecord}
 use Rattle.host_replies.specs.declared.counted.Kind.TheVariants.{EventRecords, SupportedLogs, PoisonList}
-use Rattle.host_replies.specs.Counted.{verdict}
-use Rattle.host_replies.specs.Replies.{event_record, supported_log, poison_record, read_event_records, event_fields, read_supported_logs, read_poison_list, list_fields, read_nothing}
+use Rattle.host_replies.specs.Replies.{event_record, supported_log, poison_record}
 use Rattle.protocol.specs.Text.{hex, column, columns, line_end, numbers_line}
 use Rattle.protocol.specs.Records.{RP}
 use Rattle.protocol.specs.Relations.{Puts, PutsLine, Serves}
 use Rattle.protocol.proofs.Laws.{puts_then, puts_as, puts_line_as, length_hex, length_column, length_columns}
-use Rattle.reply_records.proofs.ReplyLaws.{events_code, logs_code, list_code}
-use Rattle.reply_records.specs.HostReplies.{each_of, record_columns, record_room, read_line, refusal_line, line_of, nothing_line, reply_line, serve_reply}
+use Rattle.reply_records.specs.HostReplies.{each_of, record_columns, record_room, read_line, refusal_line, line_of, reply_line, serve_reply}
 
 -- ---- what was read, and its line
 module _ {A : Type 0} (code place : A → ℕ) (line : A → List ℕ) (x : A) {r : A} (told : r ≡ x) {used e : ℕ} {before after : List ℕ} where
-  pub line_refused : (code r ≡ 0 → ⊥) → PutsLine used (refusal_line (code r) (place r)) before after e → PutsLine used (line_of code place line x) before after e
-  unfolding line_of
-  line_refused other put =
-      puts_line_as put
-      (ap (λ (t : Bool). cond t (line r) (refusal_line (code r) (place r))) (sym (ne_eqb (code r) 0 other)) ∙ ap (λ (y : A). cond (eqb (code y) 0) (line y) (refusal_line (code y) (place y))) told)
-
   pub line_given : code r ≡ 0 → PutsLine used (line r) before after e → PutsLine used (line_of code place line x) before after e
   unfolding line_of
   line_given none put =
@@ -83,40 +75,6 @@ refusal_placed code place e = sym (ap (λ (t : Bool). cond t (numbers_line RP (c
 pub refusal_plain : (code place : ℕ) → (code ≡ 2 → ⊥) → numbers_line RP (code ∷ []) ≡ refusal_line code place
 unfolding refusal_line
 refusal_plain code place e = sym (ap (λ (t : Bool). cond t (numbers_line RP (code ∷ place ∷ [])) (numbers_line RP (code ∷ []))) (ne_eqb code 2 e))
-
--- ---- how many records a reply that is accepted has
-pub events_count : (bs : List ℕ) → (read_event_records bs).code ≡ 0 → (read_event_records bs).fields.count ≡ field bs 20 2
-unfolding read_event_records event_fields
-events_count bs e = rw (eq-eqb (verdict EventRecords bs).code 0 (events_code bs e)) refl
-
-pub logs_count : (bs : List ℕ) → (read_supported_logs bs).code ≡ 0 → (read_supported_logs bs).count ≡ field bs 0 2
-unfolding read_supported_logs
-logs_count bs e = rw (eq-eqb (verdict SupportedLogs bs).code 0 (logs_code bs e)) refl
-
-pub list_count : (bs : List ℕ) → (read_poison_list bs).code ≡ 0 → (read_poison_list bs).fields.count ≡ field bs 10 2
-unfolding read_poison_list list_fields
-list_count bs e = rw (eq-eqb (verdict PoisonList bs).code 0 (list_code bs e)) refl
-
--- ---- by the opcode
-pub line_by : (op asked : ℕ) (reply : List ℕ) {k used e : ℕ} {before after : List ℕ} → k ≡ op → PutsLine used (reply_line op asked reply) before after e
-    → PutsLine used (reply_line k asked reply) before after e
-line_by op asked reply e put = puts_line_as put (ap (λ (x : ℕ). reply_line x asked reply) (sym e))
-
-pub line_none : (op asked : ℕ) (reply : List ℕ) {used e : ℕ} {before after : List ℕ} → (op ≡ 0x0100 → ⊥) → (op ≡ 0x0102 → ⊥) → (op ≡ 0x0300 → ⊥) → (op ≡ 0x0400 → ⊥)
-    → (op ≡ 0x0401 → ⊥) → (op ≡ 0x4000 → ⊥) → (op ≡ 0x4300 → ⊥) → PutsLine used (line_of (λ x. x) (λ _. 0) nothing_line (read_nothing reply)) before after e
-    → PutsLine used (reply_line op asked reply) before after e
-unfolding reply_line
-line_none op asked reply h₁ h₂ h₃ h₄ h₅ h₆ h₇ put =
-    puts_line_as put
-    (sym (rw (
-      ne_eqb op 0x0100 h₁,
-      ne_eqb op 0x0102 h₂,
-      ne_eqb op 0x0300 h₃,
-      ne_eqb op 0x0400 h₄,
-      ne_eqb op 0x0401 h₅,
-      ne_eqb op 0x4000 h₆,
-      ne_eqb op 0x4300 h₇,
-    ) refl))
 
 -- ---- a record's columns put, and the room that they take
 pub put_event : (records : List ℕ) (i : ℕ) {at r n : ℕ} {bytes before after : List ℕ} → Puts at (32 ∷ hex (take n bytes)) before after r → bytes ≡ event_record records i → n ≡ length bytes

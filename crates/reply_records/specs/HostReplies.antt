@@ -6,13 +6,8 @@ use Rattle.wire.specs.Returns.{success, invalid_input, need}
 use Rattle.mailbox.specs.State.{DeviceState}
 use Rattle.host_replies.specs.declared.counted.Kind.{Kind}
 use Rattle.host_replies.specs.declared.counted.Kind.TheVariants.{EventRecords, SupportedLogs, PoisonList}
-use Rattle.host_replies.specs.declared.reply.EventsRead.{EventsRead}
-use Rattle.host_replies.specs.declared.reply.PolicyRead.{PolicyRead}
-use Rattle.host_replies.specs.declared.reply.TimeRead.{TimeRead}
-use Rattle.host_replies.specs.declared.reply.LogsRead.{LogsRead}
+use Rattle.host_replies.specs.Replies.{EventsRead, PolicyRead, TimeRead, LogsRead, IdentityRead, ListRead}
 use Rattle.host_replies.specs.declared.reply.IdentityFields.{IdentityFields}
-use Rattle.host_replies.specs.declared.reply.IdentityRead.{IdentityRead}
-use Rattle.host_replies.specs.declared.reply.ListRead.{ListRead}
 use Rattle.host_replies.specs.Replies.{read_event_records, read_policy, read_timestamp, read_supported_logs, read_log, read_identity, read_poison_list, read_nothing, event_record, supported_log, poison_record}
 use Rattle.protocol.specs.Text.{hex, column, columns, bytes_column, line_end, numbers_line}
 use Rattle.protocol.specs.Records.{RP}

@@ -6,12 +6,7 @@ use Rattle.wire.specs.Returns.{success, need}
 use Rattle.mailbox.specs.State.{DeviceState}
 use Rattle.host_replies.specs.declared.counted.Kind.{Kind}
 use Rattle.host_replies.specs.declared.counted.Kind.TheVariants.{EventRecords, SupportedLogs, PoisonList}
-use Rattle.host_replies.specs.declared.reply.EventsRead.{EventsRead}
-use Rattle.host_replies.specs.declared.reply.PolicyRead.{PolicyRead}
-use Rattle.host_replies.specs.declared.reply.TimeRead.{TimeRead}
-use Rattle.host_replies.specs.declared.reply.LogsRead.{LogsRead}
-use Rattle.host_replies.specs.declared.reply.IdentityRead.{IdentityRead}
-use Rattle.host_replies.specs.declared.reply.ListRead.{ListRead}
+use Rattle.host_replies.specs.Replies.{EventsRead, PolicyRead, TimeRead, LogsRead, IdentityRead, ListRead}
 use Rattle.wire.specs.Done.{Written, refused}
 use Rattle.host_replies.specs.Counted.{writing_verdict, rewritten}
 use Rattle.host_replies.specs.Replies.{read_event_records, event_header, read_policy, read_timestamp, read_supported_logs, logs_header, read_log, read_identity, write_identity, read_poison_list, list_header, read_nothing, write_bytes}

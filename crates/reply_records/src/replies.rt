@@ -2,13 +2,14 @@
 // prints its number, and for 0002h the place.
 ghost use Rattle.std.specs.Prelude.{◌≡◌, ◌++◌, ◌+◌, ◌*◌, ◌≤◌, ◌<◌, length, drop};
 ghost use Rattle.wire.specs.Wire.{field};
+ghost use Rattle.wire.specs.Refusal.{refusal_number};
 ghost use Rattle.mailbox.specs.State.{ValidDevice, state_of};
 ghost use Rattle.host_replies.specs.declared.counted.Kind.TheVariants.{EventRecords, SupportedLogs, PoisonList};
 ghost use Rattle.host_replies.specs.Replies.{read_event_records, read_policy, read_timestamp, read_supported_logs, read_log, read_identity, read_poison_list, read_nothing};
 ghost use Rattle.protocol.specs.Text.{columns};
 ghost use Rattle.protocol.specs.Relations.{Puts, PutsLine, Serves};
 ghost use Rattle.host_records.specs.Lines.{line_room};
-ghost use Rattle.reply_records.specs.HostReplies.{each_of, record_columns, record_room, refusal_line, line_of, events_line, policy_line, time_line, logs_line, log_line, identity_numbers, identity_line, list_line, nothing_line, reply_line, serve_reply};
+ghost use Rattle.reply_records.specs.HostReplies.{each_of, record_columns, record_room, read_line, refusal_line, line_of, events_line, policy_line, time_line, logs_line, log_line, identity_numbers, identity_line, list_line, nothing_line, reply_line, serve_reply};
 
 use host_records::buffer;
 use host_replies::counted::Kind;
@@ -17,20 +18,24 @@ use host_replies::reply::IdentityFields;
 use mailbox::device::Device;
 use protocol::calls::Served;
 use protocol::output;
+use wire::refusal::Refusal;
 
 // A reading that is refused.
-fn put_refusal(out: &mut [u8], used: usize, code: u16, place: usize) -> usize
+fn put_refusal(out: &mut [u8], used: usize, refusal: Refusal, place: usize) -> usize
     requires { used + line_room ≤ length out.old }
-    ensures { PutsLine used (refusal_line code place) out.old out.new result }
+    ensures { PutsLine used (refusal_line (refusal_number refusal) place) out.old out.new result }
 {
-    let number = code as u64;
-    let index = place as u64;
-    if code == 2 {
-        let numbers = [number, index];
-        return output::put_numbers(out, used, b'R', b'P', &numbers);
+    let number = u64::from(u16::from(refusal));
+    match refusal {
+        Refusal::InvalidInput => output::put_numbers(
+            out,
+            used,
+            b'R',
+            b'P',
+            &[number, place as u64],
+        ),
+        _ => output::put_numbers(out, used, b'R', b'P', &[number]),
     }
-    let numbers = [number];
-    output::put_numbers(out, used, b'R', b'P', &numbers)
 }
 
 // An event record's bytes.
@@ -48,10 +53,8 @@ fn put_log(out: &mut [u8], at: usize, records: &[u8], i: usize) -> usize
     ensures { Puts at (record_columns SupportedLogs records.now i) out.old out.new result × (result ≤ at + 54) }
 {
     let told = reply::supported_log(records, i);
-    let identifier = told.identifier;
-    let size = told.size as u64;
-    let to = output::put_bytes(out, at, &identifier, 16);
-    output::put_number(out, to, size)
+    let to = output::put_bytes(out, at, &told.identifier, 16);
+    output::put_number(out, to, u64::from(told.size))
 }
 
 // A poison record's address, type and lines.
@@ -60,11 +63,11 @@ fn put_poison(out: &mut [u8], at: usize, records: &[u8], i: usize) -> usize
     ensures { Puts at (record_columns PoisonList records.now i) out.old out.new result × (result ≤ at + 63) }
 {
     let told = reply::poison_record(records, i);
-    let address = told.address;
-    let kind = told.kind as u64;
-    let lines = told.lines as u64;
-    let numbers = [address, kind, lines];
-    output::put_each(out, at, &numbers)
+    output::put_each(
+        out,
+        at,
+        &[told.address, u64::from(told.kind), u64::from(told.lines)],
+    )
 }
 
 // Record i of some records.
@@ -85,164 +88,167 @@ fn put_records(kind: Kind, out: &mut [u8], at: usize, records: &[u8], n: usize) 
     ensures { Puts at (each_of (record_columns kind records.now) n) out.old out.new result × (result ≤ at + record_room kind * n) }
 {
     let mut to = at;
-    let mut i: usize = 0;
-    while i < n {
+    for i in 0..n {
         to = put_record(kind, out, to, records, i);
-        i += 1;
     }
     to
 }
 
+// The line of a reply that is accepted: numbers, and then the first n records.
+fn put_counted(
+    kind: Kind,
+    out: &mut [u8],
+    used: usize,
+    numbers: &[u64],
+    records: &[u8],
+    n: usize,
+) -> usize
+    requires { used + 21 * length numbers.now + record_room kind * n + 3 ≤ length out.old }
+    ensures { PutsLine used (read_line numbers.now (each_of (record_columns kind records.now) n)) out.old out.new result }
+{
+    let at = output::put_columns(out, used, b'R', b'P', numbers);
+    let end = put_records(kind, out, at, records, n);
+    output::end_line(out, end)
+}
+
 // Get Event Records: flags, overflow count, first time, last time, record count; the records.
+#[tactic(auto, using(crate::proofs::ReplyLaws::lines), unfolding(crate::specs::HostReplies::line_of))]
 fn events(out: &mut [u8], used: usize, bytes: &[u8]) -> usize
     requires { (used + line_room ≤ length out.old) × (length bytes.now ≤ 4096) }
     ensures { PutsLine used (line_of (λ x. x.code) (λ x. x.place) (events_line bytes.now) (read_event_records bytes.now)) out.old out.new result }
 {
-    let read = reply::read_event_records(bytes);
-    let code = read.code;
-    if code != 0 {
-        return put_refusal(out, used, code, read.place);
+    match reply::read_event_records(bytes) {
+        Ok(fields) => {
+            let numbers = [
+                0,
+                u64::from(fields.flags),
+                u64::from(fields.overflow_count),
+                fields.first_time,
+                fields.last_time,
+                u64::from(fields.count),
+            ];
+            let n = usize::from(fields.count);
+            put_counted(Kind::EventRecords, out, used, &numbers, &bytes[32..], n)
+        }
+        Err(refusal) => put_refusal(out, used, Refusal::from(refusal), refusal.place()),
     }
-    let number = code as u64;
-    let fields = read.fields;
-    let flags = fields.flags as u64;
-    let overflow_count = fields.overflow_count as u64;
-    let first_time = fields.first_time;
-    let last_time = fields.last_time;
-    let count = fields.count as u64;
-    let numbers = [number, flags, overflow_count, first_time, last_time, count];
-    let at = output::put_columns(out, used, b'R', b'P', &numbers);
-    let n = fields.count as usize;
-    let end = put_records(Kind::EventRecords, out, at, &bytes[32..], n);
-    output::end_line(out, end)
 }
 
 // Get Event Interrupt Policy: five settings.
+#[tactic(auto, using(crate::proofs::ReplyLaws::lines), unfolding(crate::specs::HostReplies::line_of))]
 fn policy(out: &mut [u8], used: usize, bytes: &[u8]) -> usize
     requires { (used + line_room ≤ length out.old) × (length bytes.now ≤ 4096) }
     ensures { PutsLine used (line_of (λ x. x.code) (λ _. 0) policy_line (read_policy bytes.now)) out.old out.new result }
 {
-    let read = reply::read_event_interrupt_policy(bytes);
-    let code = read.code;
-    if code != 0 {
-        return put_refusal(out, used, code, 0);
+    match reply::read_event_interrupt_policy(bytes) {
+        Ok(settings) => {
+            // By index: a pattern of an array lends its elements, which the check of borrows does not cover there.
+            let numbers = [
+                0,
+                u64::from(settings[0]),
+                u64::from(settings[1]),
+                u64::from(settings[2]),
+                u64::from(settings[3]),
+                u64::from(settings[4]),
+            ];
+            output::put_numbers(out, used, b'R', b'P', &numbers)
+        }
+        Err(refusal) => put_refusal(out, used, refusal, 0),
     }
-    let number = code as u64;
-    let settings = read.settings;
-    let first = settings[0] as u64;
-    let second = settings[1] as u64;
-    let third = settings[2] as u64;
-    let fourth = settings[3] as u64;
-    let fifth = settings[4] as u64;
-    let numbers = [number, first, second, third, fourth, fifth];
-    output::put_numbers(out, used, b'R', b'P', &numbers)
 }
 
 // Get Timestamp: the time.
+#[tactic(auto, using(crate::proofs::ReplyLaws::lines), unfolding(crate::specs::HostReplies::line_of))]
 fn timestamp(out: &mut [u8], used: usize, bytes: &[u8]) -> usize
     requires { (used + line_room ≤ length out.old) × (length bytes.now ≤ 4096) }
     ensures { PutsLine used (line_of (λ x. x.code) (λ _. 0) time_line (read_timestamp bytes.now)) out.old out.new result }
 {
-    let read = reply::read_timestamp(bytes);
-    let code = read.code;
-    if code != 0 {
-        return put_refusal(out, used, code, 0);
+    match reply::read_timestamp(bytes) {
+        Ok(time) => output::put_numbers(out, used, b'R', b'P', &[0, time]),
+        Err(refusal) => put_refusal(out, used, refusal, 0),
     }
-    let number = code as u64;
-    let time = read.time;
-    let numbers = [number, time];
-    output::put_numbers(out, used, b'R', b'P', &numbers)
 }
 
 // Get Supported Logs: count; the logs.
+#[tactic(auto, using(crate::proofs::ReplyLaws::lines), unfolding(crate::specs::HostReplies::line_of))]
 fn logs(out: &mut [u8], used: usize, bytes: &[u8]) -> usize
     requires { (used + line_room ≤ length out.old) × (length bytes.now ≤ 4096) }
     ensures { PutsLine used (line_of (λ x. x.code) (λ x. x.place) (logs_line bytes.now) (read_supported_logs bytes.now)) out.old out.new result }
 {
-    let read = reply::read_supported_logs(bytes);
-    let code = read.code;
-    if code != 0 {
-        return put_refusal(out, used, code, read.place);
+    match reply::read_supported_logs(bytes) {
+        Ok(count) => {
+            let numbers = [0, u64::from(count)];
+            let n = usize::from(count);
+            put_counted(Kind::SupportedLogs, out, used, &numbers, &bytes[8..], n)
+        }
+        Err(refusal) => put_refusal(out, used, Refusal::from(refusal), refusal.place()),
     }
-    let number = code as u64;
-    let count = read.count as u64;
-    let numbers = [number, count];
-    let at = output::put_columns(out, used, b'R', b'P', &numbers);
-    let n = read.count as usize;
-    let end = put_records(Kind::SupportedLogs, out, at, &bytes[8..], n);
-    output::end_line(out, end)
 }
 
 // Get Log, of which so many bytes were asked for: the bytes.
+#[tactic(auto, using(crate::proofs::ReplyLaws::lines), unfolding(crate::specs::HostReplies::line_of))]
 fn log(out: &mut [u8], used: usize, asked: u32, bytes: &[u8]) -> usize
     requires { (used + line_room ≤ length out.old) × (length bytes.now ≤ 4096) }
     ensures { PutsLine used (line_of (λ x. x) (λ _. 0) (log_line bytes.now) (read_log asked bytes.now)) out.old out.new result }
 {
-    let code = reply::read_log(asked, bytes);
-    if code != 0 {
-        return put_refusal(out, used, code, 0);
+    match reply::read_log(asked, bytes) {
+        Ok(()) => {
+            let at = output::put_columns(out, used, b'R', b'P', &[0]);
+            let end = buffer::put_some(out, at, bytes, bytes.len());
+            output::end_line(out, end)
+        }
+        Err(refusal) => put_refusal(out, used, refusal, 0),
     }
-    let number = code as u64;
-    let numbers = [number];
-    let at = output::put_columns(out, used, b'R', b'P', &numbers);
-    let end = buffer::put_some(out, at, bytes, bytes.len());
-    output::end_line(out, end)
 }
 
 // Identify: the version, and the numbers after it.
+#[tactic(auto, using(crate::proofs::ReplyLaws::lines), unfolding(crate::specs::HostReplies::line_of))]
 fn identity(out: &mut [u8], used: usize, bytes: &[u8]) -> usize
     requires { (used + line_room ≤ length out.old) × (length bytes.now ≤ 4096) }
     ensures { PutsLine used (line_of (λ x. x.code) (λ _. 0) identity_line (read_identity bytes.now)) out.old out.new result }
 {
-    let read = reply::read_identity(bytes);
-    let code = read.code;
-    if code != 0 {
-        return put_refusal(out, used, code, 0);
+    match reply::read_identity(bytes) {
+        Ok(fields) => {
+            let at = output::put_columns(out, used, b'R', b'P', &[0]);
+            let to = output::put_bytes(out, at, &fields.version, 16);
+            let end = put_sizes(out, to, fields);
+            output::end_line(out, end)
+        }
+        Err(refusal) => put_refusal(out, used, refusal, 0),
     }
-    let number = code as u64;
-    let fields = read.fields;
-    let start = [number];
-    let at = output::put_columns(out, used, b'R', b'P', &start);
-    let version = fields.version;
-    let to = output::put_bytes(out, at, &version, 16);
-    let end = put_sizes(out, to, fields);
-    output::end_line(out, end)
 }
 
 // Get Poison List: flags, overflow time, count; the records.
+#[tactic(auto, using(crate::proofs::ReplyLaws::lines), unfolding(crate::specs::HostReplies::line_of))]
 fn list(out: &mut [u8], used: usize, bytes: &[u8]) -> usize
     requires { (used + line_room ≤ length out.old) × (length bytes.now ≤ 4096) }
     ensures { PutsLine used (line_of (λ x. x.code) (λ x. x.place) (list_line bytes.now) (read_poison_list bytes.now)) out.old out.new result }
 {
-    let read = reply::read_poison_list(bytes);
-    let code = read.code;
-    if code != 0 {
-        return put_refusal(out, used, code, read.place);
+    match reply::read_poison_list(bytes) {
+        Ok(fields) => {
+            let numbers = [
+                0,
+                u64::from(fields.flags),
+                fields.overflow_time,
+                u64::from(fields.count),
+            ];
+            let n = usize::from(fields.count);
+            put_counted(Kind::PoisonList, out, used, &numbers, &bytes[32..], n)
+        }
+        Err(refusal) => put_refusal(out, used, Refusal::from(refusal), refusal.place()),
     }
-    let number = code as u64;
-    let fields = read.fields;
-    let flags = fields.flags as u64;
-    let overflow_time = fields.overflow_time;
-    let count = fields.count as u64;
-    let numbers = [number, flags, overflow_time, count];
-    let at = output::put_columns(out, used, b'R', b'P', &numbers);
-    let n = fields.count as usize;
-    let end = put_records(Kind::PoisonList, out, at, &bytes[32..], n);
-    output::end_line(out, end)
 }
 
 // A command for which no reply is named.
+#[tactic(auto, using(crate::proofs::ReplyLaws::lines), unfolding(crate::specs::HostReplies::line_of))]
 fn nothing(out: &mut [u8], used: usize, bytes: &[u8]) -> usize
     requires { (used + line_room ≤ length out.old) × (length bytes.now ≤ 4096) }
     ensures { PutsLine used (line_of (λ x. x) (λ _. 0) nothing_line (read_nothing bytes.now)) out.old out.new result }
 {
-    let code = reply::read_nothing(bytes);
-    if code != 0 {
-        return put_refusal(out, used, code, 0);
+    match reply::read_nothing(bytes) {
+        Ok(()) => output::put_numbers(out, used, b'R', b'P', &[0]),
+        Err(refusal) => put_refusal(out, used, refusal, 0),
     }
-    let number = code as u64;
-    let numbers = [number];
-    output::put_numbers(out, used, b'R', b'P', &numbers)
 }
 
 // The numbers of Identify after the version.
@@ -250,38 +256,26 @@ fn put_sizes(out: &mut [u8], at: usize, fields: IdentityFields) -> usize
     requires { at + 273 ≤ length out.old }
     ensures { Puts at (columns (identity_numbers fields)) out.old out.new result × (result ≤ at + 273) }
 {
-    let info = fields.info_log_size as u64;
-    let warning = fields.warning_log_size as u64;
-    let failure = fields.failure_log_size as u64;
-    let fatal = fields.fatal_log_size as u64;
-    let label = fields.label_size as u64;
-    let poison = fields.poison_list_size as u64;
-    let inject = fields.inject_limit as u64;
-    let capabilities = fields.capabilities as u64;
-    let dynamic = fields.dynamic_log_size as u64;
-    let total = fields.total;
-    let volatile = fields.volatile;
-    let persistent = fields.persistent;
-    let alignment = fields.alignment;
     let numbers = [
-        total,
-        volatile,
-        persistent,
-        alignment,
-        info,
-        warning,
-        failure,
-        fatal,
-        label,
-        poison,
-        inject,
-        capabilities,
-        dynamic,
+        fields.total,
+        fields.volatile,
+        fields.persistent,
+        fields.alignment,
+        u64::from(fields.info_log_size),
+        u64::from(fields.warning_log_size),
+        u64::from(fields.failure_log_size),
+        u64::from(fields.fatal_log_size),
+        u64::from(fields.label_size),
+        u64::from(fields.poison_list_size),
+        u64::from(fields.inject_limit),
+        u64::from(fields.capabilities),
+        u64::from(fields.dynamic_log_size),
     ];
     output::put_each(out, at, &numbers)
 }
 
 // The line of a reply, by the opcode.
+#[tactic(auto, using(std::proofs::lemmas::Bool::Decides::nat_tests), unfolding(crate::specs::HostReplies::reply_line))]
 fn put_reply(out: &mut [u8], used: usize, opcode: u64, asked: u32, bytes: &[u8]) -> usize
     requires { (used + line_room ≤ length out.old) × (length bytes.now ≤ 4096) }
     ensures { PutsLine used (reply_line opcode asked bytes.now) out.old out.new result }

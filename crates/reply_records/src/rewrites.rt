@@ -4,6 +4,7 @@ ghost use Rattle.std.specs.Prelude.{◌≡◌, [], ◌+◌, ◌≤◌, ◌<◌, 
 ghost use Rattle.wire.specs.Wire.{field};
 ghost use Rattle.mailbox.specs.State.{ValidDevice, state_of};
 ghost use Rattle.wire.specs.Done.{Writes};
+ghost use Rattle.wire.specs.Refusal.{done_of};
 ghost use Rattle.host_replies.specs.Replies.{read_event_records, read_policy, read_timestamp, read_supported_logs, read_log, read_identity, read_poison_list, read_nothing, write_bytes};
 ghost use Rattle.protocol.specs.HostFormats.{opcode_of};
 ghost use Rattle.protocol.specs.Relations.{Serves};
@@ -14,120 +15,82 @@ use host_records::buffer;
 use host_replies::{reply, writing};
 use mailbox::device::Device;
 use protocol::calls::Served;
-use wire::done::Done;
+use wire::refusal;
+use wire::refusal::Refusal;
 
 // Get Event Records.
-fn events(bytes: &[u8], room: &mut [u8]) -> Done
-    ensures { Writes (read_then (λ x. x.code) (write_events bytes.now) (read_event_records bytes.now) (length room.old)) result room.old room.new }
+fn events(bytes: &[u8], room: &mut [u8]) -> Result<usize, Refusal>
+    ensures { Writes (read_then (λ x. x.code) (write_events bytes.now) (read_event_records bytes.now) (length room.old)) (done_of result) room.old room.new }
 {
-    let read = reply::read_event_records(bytes);
-    let code = read.code;
-    if code != 0 {
-        return Done { code, length: 0 };
-    }
-    let fields = read.fields;
-    let done = writing::write_event_records(fields, &bytes[32..], room);
-    let code = done.code;
-    let length = done.length;
-    Done { code, length }
+    let fields = reply::read_event_records(bytes)?;
+    Ok(writing::write_event_records(fields, &bytes[32..], room)?)
 }
 
 // Get Event Interrupt Policy.
-fn policy(bytes: &[u8], room: &mut [u8]) -> Done
-    ensures { Writes (read_then (λ x. x.code) write_policy (read_policy bytes.now) (length room.old)) result room.old room.new }
+#[tactic(auto, using(std::proofs::lemmas::Bool::Decides::nat_tests), unfolding(crate::specs::HostRewrites::read_then))]
+fn policy(bytes: &[u8], room: &mut [u8]) -> Result<usize, Refusal>
+    ensures { Writes (read_then (λ x. x.code) write_policy (read_policy bytes.now) (length room.old)) (done_of result) room.old room.new }
 {
-    let read = reply::read_event_interrupt_policy(bytes);
-    let code = read.code;
-    if code != 0 {
-        return Done { code, length: 0 };
-    }
-    let settings = read.settings;
+    let settings = reply::read_event_interrupt_policy(bytes)?;
     writing::write_event_interrupt_policy(&settings, room)
 }
 
 // Get Timestamp.
-fn timestamp(bytes: &[u8], room: &mut [u8]) -> Done
-    ensures { Writes (read_then (λ x. x.code) write_time (read_timestamp bytes.now) (length room.old)) result room.old room.new }
+#[tactic(auto, using(std::proofs::lemmas::Bool::Decides::nat_tests), unfolding(crate::specs::HostRewrites::read_then))]
+fn timestamp(bytes: &[u8], room: &mut [u8]) -> Result<usize, Refusal>
+    ensures { Writes (read_then (λ x. x.code) write_time (read_timestamp bytes.now) (length room.old)) (done_of result) room.old room.new }
 {
-    let read = reply::read_timestamp(bytes);
-    let code = read.code;
-    if code != 0 {
-        return Done { code, length: 0 };
-    }
-    let time = read.time;
+    let time = reply::read_timestamp(bytes)?;
     writing::write_timestamp(time, room)
 }
 
 // Get Supported Logs.
-fn logs(bytes: &[u8], room: &mut [u8]) -> Done
-    ensures { Writes (read_then (λ x. x.code) (write_logs bytes.now) (read_supported_logs bytes.now) (length room.old)) result room.old room.new }
+fn logs(bytes: &[u8], room: &mut [u8]) -> Result<usize, Refusal>
+    ensures { Writes (read_then (λ x. x.code) (write_logs bytes.now) (read_supported_logs bytes.now) (length room.old)) (done_of result) room.old room.new }
 {
-    let read = reply::read_supported_logs(bytes);
-    let code = read.code;
-    if code != 0 {
-        return Done { code, length: 0 };
-    }
-    let count = read.count;
-    let done = writing::write_supported_logs(count, &bytes[8..], room);
-    let code = done.code;
-    let length = done.length;
-    Done { code, length }
+    let count = reply::read_supported_logs(bytes)?;
+    Ok(writing::write_supported_logs(count, &bytes[8..], room)?)
 }
 
 // Get Log, of which so many bytes were asked for.
-fn log(asked: u32, bytes: &[u8], room: &mut [u8]) -> Done
-    ensures { Writes (read_then (λ x. x) (λ _. write_bytes bytes.now) (read_log asked bytes.now) (length room.old)) result room.old room.new }
+#[tactic(auto, using(std::proofs::lemmas::Bool::Decides::nat_tests), unfolding(crate::specs::HostRewrites::read_then))]
+fn log(asked: u32, bytes: &[u8], room: &mut [u8]) -> Result<usize, Refusal>
+    ensures { Writes (read_then (λ x. x) (λ _. write_bytes bytes.now) (read_log asked bytes.now) (length room.old)) (done_of result) room.old room.new }
 {
-    let code = reply::read_log(asked, bytes);
-    if code != 0 {
-        return Done { code, length: 0 };
-    }
+    reply::read_log(asked, bytes)?;
     writing::write_log(bytes, room)
 }
 
 // Identify.
-fn identity(bytes: &[u8], room: &mut [u8]) -> Done
-    ensures { Writes (read_then (λ x. x.code) write_fields (read_identity bytes.now) (length room.old)) result room.old room.new }
+#[tactic(auto, using(std::proofs::lemmas::Bool::Decides::nat_tests), unfolding(crate::specs::HostRewrites::read_then))]
+fn identity(bytes: &[u8], room: &mut [u8]) -> Result<usize, Refusal>
+    ensures { Writes (read_then (λ x. x.code) write_fields (read_identity bytes.now) (length room.old)) (done_of result) room.old room.new }
 {
-    let read = reply::read_identity(bytes);
-    let code = read.code;
-    if code != 0 {
-        return Done { code, length: 0 };
-    }
-    let fields = read.fields;
+    let fields = reply::read_identity(bytes)?;
     writing::write_identity(fields, room)
 }
 
 // Get Poison List.
-fn list(bytes: &[u8], room: &mut [u8]) -> Done
-    ensures { Writes (read_then (λ x. x.code) (write_list bytes.now) (read_poison_list bytes.now) (length room.old)) result room.old room.new }
+fn list(bytes: &[u8], room: &mut [u8]) -> Result<usize, Refusal>
+    ensures { Writes (read_then (λ x. x.code) (write_list bytes.now) (read_poison_list bytes.now) (length room.old)) (done_of result) room.old room.new }
 {
-    let read = reply::read_poison_list(bytes);
-    let code = read.code;
-    if code != 0 {
-        return Done { code, length: 0 };
-    }
-    let fields = read.fields;
-    let done = writing::write_poison_list(fields, &bytes[32..], room);
-    let code = done.code;
-    let length = done.length;
-    Done { code, length }
+    let fields = reply::read_poison_list(bytes)?;
+    Ok(writing::write_poison_list(fields, &bytes[32..], room)?)
 }
 
 // A command for which no reply is named.
-fn nothing(bytes: &[u8], room: &mut [u8]) -> Done
-    ensures { Writes (read_then (λ x. x) (λ _. write_bytes []) (read_nothing bytes.now) (length room.old)) result room.old room.new }
+#[tactic(auto, using(std::proofs::lemmas::Bool::Decides::nat_tests), unfolding(crate::specs::HostRewrites::read_then))]
+fn nothing(bytes: &[u8], room: &mut [u8]) -> Result<usize, Refusal>
+    ensures { Writes (read_then (λ x. x) (λ _. write_bytes []) (read_nothing bytes.now) (length room.old)) (done_of result) room.old room.new }
 {
-    let code = reply::read_nothing(bytes);
-    if code != 0 {
-        return Done { code, length: 0 };
-    }
+    reply::read_nothing(bytes)?;
     writing::write_nothing(room)
 }
 
 // The reply of a command, read and written again by its opcode.
-fn rewrite(opcode: u64, asked: u32, bytes: &[u8], room: &mut [u8]) -> Done
-    ensures { Writes (written_again opcode asked bytes.now (length room.old)) result room.old room.new }
+#[tactic(auto, using(std::proofs::lemmas::Bool::Decides::nat_tests), unfolding(crate::specs::HostRewrites::written_again))]
+fn rewrite(opcode: u64, asked: u32, bytes: &[u8], room: &mut [u8]) -> Result<usize, Refusal>
+    ensures { Writes (written_again opcode asked bytes.now (length room.old)) (done_of result) room.old room.new }
 {
     match opcode {
         0x0100 => events(bytes, room),
@@ -142,9 +105,9 @@ fn rewrite(opcode: u64, asked: u32, bytes: &[u8], room: &mut [u8]) -> Done
 }
 
 // RW (opcode 2, asked 4, room 2, fill 1, length 2, reply): the calls, with a buffer of `room` bytes.
-fn call_again(bytes: &[u8], reply: &mut [u8]) -> Done
+fn call_again(bytes: &[u8], reply: &mut [u8]) -> Result<usize, Refusal>
     requires { (13 ≤ length bytes.now) × (length reply.old ≡ field bytes.now 8 2) }
-    ensures { Writes (again_call bytes.now) result (replicate (field bytes.now 8 2) (get_or bytes.now 10 0)) reply.new }
+    ensures { Writes (again_call bytes.now) (done_of result) (replicate (field bytes.now 8 2) (get_or bytes.now 10 0)) reply.new }
 {
     let opcode = wire::get(bytes, 2, 2);
     let asked = wire::get(bytes, 4, 4) as u32;
@@ -157,15 +120,15 @@ pub fn again(device: Device, bytes: &[u8], reply: &mut [u8], out: &mut [u8], use
     requires { ValidDevice device × (13 ≤ length bytes.now) × (field bytes.now 8 2 ≤ 4096) × (length reply.old ≡ field bytes.now 8 2) × (used + line_room ≤ length out.old) }
     ensures { Serves (serve_again (state_of device) bytes.now) used result out.old out.new }
 {
-    let done = call_again(bytes, reply);
+    let written = call_again(bytes, reply);
     let end = buffer::put_line(
         out,
         used,
         b'R',
         b'W',
-        done.code,
+        refusal::code_of(&written),
         reply,
-        done.length,
+        written.unwrap_or(0),
         bytes[10],
     );
     Served { used: end, device }

@@ -8,7 +8,7 @@ use wire::returns;
 
 // Never set, or the value set and the caller's time at the setting.
 #[repr(C)]
-#[derive(Clone, Copy)]
+#[derive(Clone, Copy, Debug, PartialEq, Eq, Hash)]
 pub struct Clock {
     pub(crate) set: bool,
     pub(crate) value: u64,
@@ -28,24 +28,19 @@ impl Clock {
     }
 
     // The device time when the caller's clock says time.
+    #[tactic(auto, unfolding(crate::specs::Clock::device_time))]
     pub fn time(self, time: u64) -> u64
         ensures { result ≡ device_time self time }
     {
-        if !self.set {
-            return 0;
+        if self.set {
+            self.value.saturating_add(time.saturating_sub(self.since))
+        } else {
+            0
         }
-        if time < self.since {
-            return self.value;
-        }
-        let elapsed = time - self.since;
-        let room = 18446744073709551615 - self.value;
-        if room < elapsed {
-            return 18446744073709551615;
-        }
-        self.value + elapsed
     }
 
     // Get Timestamp.
+    #[tactic(auto, using(wire::proofs::Laws::length_le, std::proofs::lemmas::Grind::common_steps), unfolding(crate::specs::Clock::get_timestamp))]
     pub fn get_timestamp(self, time: u64, reply: &mut [u8]) -> Done
         requires { 8 ≤ length reply.old }
         ensures { Replied (get_timestamp self time) result reply.old reply.new }
@@ -60,6 +55,7 @@ impl Clock {
 }
 
 // Set Timestamp: the clock that follows.
+#[tactic(auto, unfolding(crate::specs::Clock::set_timestamp))]
 pub fn set_timestamp(payload: &[u8], time: u64) -> Clock
     requires { length payload.now ≡ 8 }
     ensures { result ≡ set_timestamp payload.now time }

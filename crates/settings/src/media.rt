@@ -4,7 +4,7 @@ ghost use Rattle.settings.specs.Media.{enabled, rows, seconds_in, duration, sani
 
 // Enabled; or disabled since a caller's time, for so many nanoseconds.
 #[repr(C)]
-#[derive(Clone, Copy)]
+#[derive(Clone, Copy, Debug, PartialEq, Eq, Hash)]
 pub struct MediaState {
     pub disabled: bool,
     pub(crate) since: u64,
@@ -24,57 +24,36 @@ impl MediaState {
     }
 
     // Whether the work is due to end when the caller's clock says time. No sum is made, so that none wraps.
+    #[tactic(auto, unfolding(crate::specs::Media::due))]
     pub fn due(self, time: u64) -> bool
         ensures { result ≡ due self time }
     {
-        if !self.disabled {
-            return false;
-        }
-        if time < self.since {
-            return false;
-        }
-        self.lasts <= time - self.since
+        self.disabled && self.since <= time && self.lasts <= time - self.since
     }
 }
 
 // The seconds that a Sanitize takes on a device of so many units, by the rows of the table; no device has more units than the last.
+#[tactic(auto, unfolding(crate::specs::Media::rows))]
 fn seconds(units: u32) -> u64
     ensures { (result ≡ seconds_in rows units) × (result ≤ 1800) }
 {
-    if units <= 2 {
-        return 4;
+    match units {
+        ..=2 => 4,
+        ..=4 => 8,
+        ..=8 => 15,
+        ..=16 => 30,
+        ..=32 => 60,
+        ..=64 => 120,
+        ..=128 => 240,
+        ..=256 => 480,
+        ..=512 => 900,
+        ..=1024 => 1800,
+        _ => 0,
     }
-    if units <= 4 {
-        return 8;
-    }
-    if units <= 8 {
-        return 15;
-    }
-    if units <= 16 {
-        return 30;
-    }
-    if units <= 32 {
-        return 60;
-    }
-    if units <= 64 {
-        return 120;
-    }
-    if units <= 128 {
-        return 240;
-    }
-    if units <= 256 {
-        return 480;
-    }
-    if units <= 512 {
-        return 900;
-    }
-    if units <= 1024 {
-        return 1800;
-    }
-    0
 }
 
 // How many nanoseconds a Sanitize takes on a device of so many units.
+#[tactic(auto, unfolding(crate::specs::Media::duration))]
 fn duration(units: u32) -> u64
     ensures { result ≡ duration units }
 {
@@ -82,6 +61,7 @@ fn duration(units: u32) -> u64
 }
 
 // Sanitize: media after it, on a device of so many units, at the caller's time.
+#[tactic(auto, unfolding(crate::specs::Media::sanitize))]
 pub fn sanitize(units: u32, time: u64) -> MediaState
     ensures { result ≡ sanitize units time }
 {

@@ -1,19 +1,21 @@
 -- Laws of the definitions of `specs/`, those of `Wire.antt` each over the width; and two on tests that every layer uses. With `Splice` it is what a crate above may
 -- cite of proofs/ (`tests/layers`). Assumes nothing.
 use mathlib.Core.Path.{◌≡◌, refl, sym, ap, ap₂, ◌∙◌, subst}
-use mathlib.Core.List.{List, [], ◌∷◌, ◌++◌, append-nil}
+use mathlib.Core.List.{List, [], ◌∷◌, ◌++◌, append-nil, append_assoc}
 use Prim.Native.Nat.{ℕ, zero, suc, ◌+◌, ◌-◌, ◌*◌, ◌/◌, ◌%◌, ◌^◌, ◌≤◌, ◌<◌}
-use native.Mathlib.Nat.{add-zero, add-suc, suc-add}
+use native.Mathlib.Nat.{add-zero, add-suc, suc-add, pow-le-pow_right, zero-lt-suc}
 use native.Mathlib.Numerals.{add-one}
 use native.Mathlib.Omega.{arith}
 use native.Mathlib.Decide.{ℕ_discrete}
 use lib.ListN.{length, take, drop, get_or, set, length-take, length-drop}
-use lib.Seq.{sets, sets-eq, length-sets, drop-cons, take_all}
+use lib.Seq.{sets, sets-eq, length-sets, drop-cons, drop-drop, take_all}
+use borrow.Rule.Slice.PartMut.{put_mid}
 use lib.Pow.{pow-add}
-use native.Mathlib.Nat.{pow-le-pow_right, zero-lt-suc}
 use Rattle.wire.specs.Returns.{need}
 use Rattle.wire.specs.Wire.{le, number, part, field, splice, same}
 use mathlib.Core.Bool.{Bool, true, false, ◌&&◌, cond, false≢true}
+use Rattle.std.specs.Cmp.Lexicographic.{pointwise}
+use Rattle.std.proofs.lemmas.Grind.{take-set_at}
 use lib.Dec.{eqb}
 use lib.ListN.{length-append, drop_of_length-le}
 -- What a call that writes to a lent room gives, by its two cases; and what was written lies in the room (`DoneLaws`).
@@ -42,10 +44,37 @@ pub stores : (at : ℕ) (bs xs : List ℕ) → at + length bs ≤ length xs → 
 unfolding splice
 stores at bs xs h = sets-eq bs xs at h
 
+-- what `&xs[at..at + k]` is
+pub part_lent : (at k : ℕ) (xs : List ℕ) → take (at + k - at) (drop at xs) ≡ part at k xs
+unfolding part
+part_lent at k xs = ap (λ (j : ℕ). take j (drop at xs)) (omega arith)
+
+-- a write through `&mut xs[at..at + k]`, which leaves zs there, is a splice
+pub part_stored : (at k : ℕ) (zs bs xs : List ℕ) → zs ≡ bs → k ≡ length bs → put_mid at k xs zs ≡ splice at bs xs
+unfolding splice
+part_stored at k zs bs xs e long =
+    ap₂ (λ (l : List ℕ) (j : ℕ). take at xs ++ (l ++ drop j (drop at xs))) e long
+    ∙ ap (λ (l : List ℕ). take at xs ++ (bs ++ l)) (drop-drop (length bs) at xs)
+    ∙ sym (append_assoc (take at xs) bs (drop (at + length bs) xs))
+
 -- one byte more of a number, at the front
 pub le_step : (k n : ℕ) {j : ℕ} → j ≡ k + 1 → le j n ≡ n % 256 ∷ le k (n / 256)
 unfolding le
 le_step k n e = ap (λ (x : ℕ). le x n) (e ∙ add-one k)
+
+-- a turn of the loop that writes the n lowest bytes of a number over the elements of xs: i of them are written, and m is what is left of the number
+pub written_turn : (xs : List ℕ) (i n m : ℕ) → i < n → length xs ≡ n → take (i + 1) (set xs i (m % 256)) ++ le (n - (i + 1)) (m / 256) ≡ take i xs ++ le (n - i) m
+written_turn xs i n m less long =
+    ap (λ (l : List ℕ). l ++ le (n - (i + 1)) (m / 256)) (take-set_at xs i (i + 1) (m % 256) refl (omega arith))
+    ∙ append_assoc (take i xs) (m % 256 ∷ []) (le (n - (i + 1)) (m / 256))
+    ∙ ap (λ (l : List ℕ). take i xs ++ l) (sym (le_step (n - (i + 1)) m (omega arith)))
+
+-- its end: all of them are written
+pub written_whole : (xs : List ℕ) (i n m : ℕ) → n ≤ i → length xs ≡ n → xs ≡ take i xs ++ le (n - i) m
+unfolding le
+written_whole xs i n m past long =
+    let none : 0 ≡ n - i = omega arith in
+    sym (append-nil xs) ∙ ap₂ (λ (l : List ℕ) (k : ℕ). l ++ le k m) (sym (take_all i xs (omega arith))) none
 
 -- one element more of a part, at the front
 pub part_step : (at k : ℕ) (xs : List ℕ) {j : ℕ} → j ≡ k + 1 → at < length xs → part at j xs ≡ get_or xs at 0 ∷ part (at + 1) k xs
@@ -53,10 +82,6 @@ unfolding part
 part_step at k xs e h =
     ap (λ (x : ℕ). take x (drop at xs)) (e ∙ add-one k) ∙ ap (take (suc k)) (drop-cons xs at 0 h)
     ∙ ap (λ (x : ℕ). get_or xs at 0 ∷ take k (drop x xs)) (sym (add-one at))
-
--- the first store of a run is the code's store
-pub sets_step : (at : ℕ) (b : ℕ) (bs xs : List ℕ) → sets xs at (b ∷ bs) ≡ sets (set xs at b) (at + 1) bs
-sets_step at b bs xs = ap (λ (x : ℕ). sets (set xs at b) x bs) (sym (add-one at))
 
 pub field_step : (xs : List ℕ) (at k : ℕ) {j : ℕ} → j ≡ k + 1 → at < length xs → field xs at j ≡ field xs (at + 1) k * 256 + get_or xs at 0
 unfolding field number
@@ -91,41 +116,16 @@ byte_more k r b {j} e hr hb =
     let p : 256 ^ j ≡ 256 ^ k * 256 = ap (λ (x : ℕ). 256 ^ x) e ∙ pow-add 256 k 1 in
     subst (λ (x : ℕ). r * 256 + b < x) (sym p) (omega arith)
 
--- a number of at most 8 bytes fits 64 bits
-pub below_word : (k r : ℕ) → k ≤ 8 → r < 256 ^ k → r < 2 ^ 64
-below_word k r hk hr = omega (arith, pow-le-pow_right {n = 256} (zero-lt-suc 255) hk)
-
--- a turn of a loop that stores a run of bytes, l, from index at + i: the store of the first, and the rest
-pub turn : (d e : List ℕ) (at i b : ℕ) (bs l : List ℕ) → l ≡ b ∷ bs → sets d (at + i) l ≡ e → sets (set d (at + i) b) (at + (i + 1)) bs ≡ e
-turn d e at i b bs l p h =
-    ap (λ (x : ℕ). sets (set d (at + i) b) x bs) (omega arith) ∙ sym (sets_step (at + i) b bs d) ∙ ap (sets d (at + i)) (sym p) ∙ h
-
--- the end of such a loop, where nothing is left: what was asked for is the splice
-pub turned : (d d₀ : List ℕ) (at j : ℕ) (l bs : List ℕ) → l ≡ [] → sets d j l ≡ sets d₀ at bs → at + length bs ≤ length d₀ → d ≡ splice at bs d₀
-turned d d₀ at j l bs p h room = ap (sets d j) (sym p) ∙ h ∙ stores at bs d₀ room
-
-pub le_none : (k n : ℕ) → k ≡ 0 → le k n ≡ []
-unfolding le
-le_none k n e = ap (λ (x : ℕ). le x n) e
+-- k bytes make a number below 256 ^ k
+pub field_small : (xs : List ℕ) (k at : ℕ) → at + k ≤ length xs → ((i : ℕ) → get_or xs i 0 < 256) → field xs at k < 256 ^ k
+field_small xs zero at long each = omega (arith, field_none xs at)
+field_small xs (suc k) at long each =
+    rw (field_step xs at k (sym (add-one k)) (omega arith))
+    (byte_more k _ _ (sym (add-one k)) (field_small xs k (at + 1) (omega arith) each) (each at))
 
 pub part_none : (at k : ℕ) (xs : List ℕ) → k ≡ 0 → part at k xs ≡ []
 unfolding part
 part_none at k xs e = ap (λ (x : ℕ). take x (drop at xs)) e
-
-pub field_zero : (xs : List ℕ) (at k : ℕ) → k ≡ 0 → 0 ≡ field xs at k
-field_zero xs at k e = sym (ap (field xs at) e ∙ field_none xs at)
-
--- a turn of the loop that reads a number from its highest byte down: r has the bytes from index at + i on
-pub field_turn : (s : List ℕ) (at i n r b : ℕ) → 0 < i → i ≤ n → at + n ≤ length s → r ≡ field s (at + i) (n - i) → b ≡ get_or s (at + (i - 1)) 0
-    → r * 256 + b ≡ field s (at + (i - 1)) (n - (i - 1))
-field_turn s at i n r b pos le fits er eb =
-    ap₂ (λ (x y : ℕ). x * 256 + y) (er ∙ ap (λ (x : ℕ). field s x (n - i)) (omega arith)) eb
-    ∙ sym (field_step s (at + (i - 1)) (n - i) (omega arith) (omega arith))
-
-pub part_turn : (s : List ℕ) (from i n : ℕ) → i < n → from + n ≤ length s → part (from + i) (n - i) s ≡ get_or s (from + i) 0 ∷ part (from + (i + 1)) (n - (i + 1)) s
-part_turn s from i n less fits =
-    part_step (from + i) (n - (i + 1)) s (omega arith) (omega arith)
-    ∙ ap (λ (x : ℕ). get_or s (from + i) 0 ∷ part x (n - (i + 1)) s) (omega arith)
 
 sets_append : (a b xs : List ℕ) (at j : ℕ) → j ≡ at + length a → sets (sets xs at a) j b ≡ sets xs at (a ++ b)
 sets_append [] b xs at j e = ap (λ (x : ℕ). sets xs x b) (e ∙ add-zero at)
@@ -144,16 +144,13 @@ pub copied : (n : ℕ) (xs ys : List ℕ) → length xs ≡ n → length ys ≡ 
 unfolding splice
 copied n xs ys e f = ap (λ (l : List ℕ). xs ++ l) (drop_of_length-le ys {i = 0 + length xs} (omega arith)) ∙ append-nil xs
 
--- a turn of the loop that compares
-pub same_turn : (s t : List ℕ) (at i : ℕ) → i < length t → at + length t ≤ length s
-    → same (part (at + i) (length t - i) s) (drop i t) ≡ (eqb (get_or s (at + i) 0) (get_or t i 0) && same (part (at + (i + 1)) (length t - (i + 1)) s) (drop (i + 1) t))
+-- equal as std compares two slices
+pub same_pointwise : (xs ys : List ℕ) → pointwise eqb xs ys ≡ same xs ys
 unfolding same
-same_turn s t at i less fits =
-    ap₂ same (part_turn s at i (length t) less fits) (drop-cons t i 0 less ∙ ap (λ (x : ℕ). get_or t i 0 ∷ drop x t) (sym (add-one i)))
-
-pub same_none : (s t : List ℕ) (at k i : ℕ) → k ≡ 0 → length t ≤ i → same (part at k s) (drop i t) ≡ true
-unfolding same
-same_none s t at k i e h = ap₂ same (part_none at k s e) (drop_of_length-le t h)
+same_pointwise [] [] = refl
+same_pointwise [] (y ∷ ys) = refl
+same_pointwise (x ∷ xs) [] = refl
+same_pointwise (x ∷ xs) (y ∷ ys) = ap (λ (b : Bool). eqb x y && b) (same_pointwise xs ys)
 
 -- a check that fails gives its number, one that holds gives the rest
 pub need_fails : {t : Bool} (n m : ℕ) → t ≡ false → n ≡ need t n m
@@ -176,3 +173,7 @@ and_parts false b e = absurd (false≢true e)
 pub either : {A : Type 0} (P : A → Type 0) (t : Bool) {a b : A} → P a → P b → P (cond t a b)
 either P true k l = k
 either P false k l = l
+
+-- a number of at most 8 bytes fits 64 bits
+pub below_word : (k r : ℕ) → k ≤ 8 → r < 256 ^ k → r < 2 ^ 64
+below_word k r hk hr = omega (arith, pow-le-pow_right {n = 256} (zero-lt-suc 255) hk)

@@ -1,13 +1,40 @@
--- `kulduvost_line_test` meets its contract, by what the functions that it calls ensure (`Parts`). Assumes nothing.
-use Rattle.poison.proofs.Laws.{Sized}
-use Rattle.embed.proofs.Parts.{line_in_asks, line_in_gives}
+-- `kulduvost_line_test` meets its contract: the checks of the address, then the numbers of each case of the list's answer (LineLaws). Assumes nothing.
+use mathlib.Core.Path.{sym, ◌∙◌}
+use native.Mathlib.Omega.{arith}
+use borrow.Author.Rules.{rules}
+use Rattle.poison.specs.declared.line_test.LineTest.TheVariants.{Clean, Damaged, Unknown}
+use Rattle.mailbox.specs.State.{state_of}
+use Rattle.mailbox.proofs.Laws.{line_inside}
+use Rattle.embed.proofs.LineLaws.{refused, disabled, told}
+use Rattle.embed.proofs.Parts.{test_asks}
 use Rattle.embed.proofs.kulduvost_line_test.Goals as goal
 
-pub line_in-requires : goal.line_in-requires
-line_in-requires c =
-    let long = c.sized.ensures in let sized : Sized c.args.device.now.poison = record { starts = long.0; lengths = long.1; kinds = long.2 } in
-    line_in_asks c.args.device.now c.args.address c.requires sized
+pub returns-then-code-ne-SUCCESS : goal.returns-then-code-ne-SUCCESS
+returns-then-code-ne-SUCCESS c =
+    refused (state_of c.args.device.now) _ _ c.check_address-code.ensures c.if-code-ne-SUCCESS.true
 
-pub returns : goal.returns
-returns c =
-    line_in_gives c.args.device.now c.args.address c.requires c.line_in.result c.line_in.ensures
+pub returns-then-device : goal.returns-then-device
+returns-then-device c =
+    disabled (state_of c.args.device.now) _ _ c.check_address-code.ensures (omega arith) c.if-device.true
+
+pub overflow_cast-address : goal.overflow_cast-address
+overflow_cast-address c =
+    let h = line_inside _ _ (sym c.check_address-code.ensures ∙ (omega arith)) in
+    let k = c.requires.few_units in
+    record { fits = omega (arith, h, k) }
+
+pub test-requires : goal.test-requires
+test-requires c =
+    test_asks c.args.device.now c.requires
+
+pub returns-in-Clean : goal.returns-in-Clean
+returns-in-Clean c =
+    told (state_of c.args.device.now) _ _ c.check_address-code.ensures (omega arith) c.if-device.false _ Clean c.test.ensures (search rules)
+
+pub returns-in-Damaged : goal.returns-in-Damaged
+returns-in-Damaged c =
+    told (state_of c.args.device.now) _ _ c.check_address-code.ensures (omega arith) c.if-device.false _ (Damaged _) c.test.ensures (search rules)
+
+pub returns-in-Unknown : goal.returns-in-Unknown
+returns-in-Unknown c =
+    told (state_of c.args.device.now) _ _ c.check_address-code.ensures (omega arith) c.if-device.false _ Unknown c.test.ensures (search rules)

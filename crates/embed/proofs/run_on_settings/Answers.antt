@@ -4,4 +4,5 @@ use Rattle.embed.proofs.run_on_settings.Goals as goal
 
 pub returns : goal.returns
 returns c =
-    settings_command_gives c.args.device.now c.args.opcode c.args.payload.now c.args.time c.args.reply.now c.requires c.settings_command-a.result c.settings_command-a.new.reply c.settings_command-a.ensures
+    let done = c.settings_command-done in
+    settings_command_gives c.args.device.now c.args.opcode c.args.payload.now c.args.time c.args.reply.now c.requires (record { code = done.result.code; length = done.result.length; clock = done.new.clock; policy = done.new.policy; media = done.new.media }) done.new.reply done.ensures

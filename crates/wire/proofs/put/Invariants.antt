@@ -1,14 +1,10 @@
--- `wire::put` meets its contract. The invariant: the bytes that are left, stored over what d is now, give what all of them stored over d at entry give.
--- Assumes nothing.
+-- `wire::put` meets its contract. The invariant: the bytes written, and those of what is left of the number, are those of all of it. Assumes nothing.
 use mathlib.Core.Path.{◌≡◌}
-use Prim.Native.Nat.{◌≤◌, ◌+◌, ◌-◌}
-use lib.ListN.{length}
-use lib.Seq.{sets}
+use mathlib.Core.List.{◌++◌}
+use Prim.Native.Nat.{◌-◌}
+use lib.ListN.{length, take}
 use Rattle.wire.specs.Wire.{le}
 use Rattle.wire.proofs.put.Given as goal
 
-abbrev pub invariant-loop-i : goal.invariant-loop-i
-invariant-loop-i l = (l.i ≤ l.n) × (length l.d ≡ length l.initial.d) × (sets l.d (l.at + l.i) (le (l.n - l.i) l.rest) ≡ sets l.initial.d l.at (le l.n l.value))
-
-abbrev pub decreases-loop-i : goal.decreases-loop-i
-decreases-loop-i l = l.n - l.i
+abbrev pub invariant-loop-byte : goal.invariant-loop-byte
+invariant-loop-byte l = (length l.byte-items ≡ l.n) × (take l.byte-index l.byte-items ++ le (l.n - l.byte-index) l.rest ≡ le l.n l.value)

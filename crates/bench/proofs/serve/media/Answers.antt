@@ -4,4 +4,4 @@ use Rattle.bench.proofs.serve.media.Goals as goal
 
 pub returns : goal.returns
 returns c =
-    media_served c.args.bytes.now c.media-answer.ensures c.put_told-end.ensures
+    media_served c.args.bytes.now c.media-answer.ensures c.put_told-used.ensures

@@ -11,8 +11,17 @@ use Rattle.bench.specs.Relations.{kept_of}
 use Rattle.bench.proofs.serve.serve.Given as goal
 
 abbrev pub invariant-loop-s : goal.invariant-loop-s
-invariant-loop-s l = (length l.input ≡ 65536) × (length l.out ≡ 65536) × (length l.reply ≡ 2048) × ValidDevice l.device × Fits l.s × (0 < l.s.offset)
-    × Steps bench (machine_of (kept_of l.initial.device l.initial.area) l.initial.s l.initial.input l.initial.out) (machine_of (kept_of l.device l.area) l.s l.input l.out) × (length l.area ≡ length l.initial.area)
+invariant-loop-s l =
+    record {
+      input : length l.input ≡ 65536;
+      out : length l.out ≡ 65536;
+      reply : length l.reply ≡ 2048;
+      area : length l.area ≡ length l.initial.area;
+      valid : ValidDevice l.device;
+      fits : Fits l.s;
+      later : 0 < l.s.offset;
+      came : Steps bench (machine_of (kept_of l.initial.device l.initial.area) l.initial.s l.initial.input l.initial.out) (machine_of (kept_of l.device l.area) l.s l.input l.out);
+    }
 
 abbrev pub decreases-loop-s : goal.decreases-loop-s
 decreases-loop-s l = 9223372036854775808 - l.s.offset

@@ -1,28 +1,13 @@
--- `host_records::buffer::kept` meets its contract. The invariant: whether the bytes from index i on are still as filled is whether those from index n on are. The measure
--- is what is left of the buffer. Assumes nothing.
-use mathlib.Core.Path.{refl, sym, ◌∙◌}
-use borrow.Author.Rules.{rules}
-use Rattle.host_records.proofs.BufferLaws.{still_none, still_more, still_other}
+-- `host_records::buffer::kept` meets its contract: what `all` answers is `still`. Assumes nothing.
+use Rattle.std.proofs.Common.{ℕ, drop, eqb, ◌∙◌, length-drop, arith, rules, tests}
+use lib.Seq.{take_all}
+use Rattle.std.proofs.lemmas.Iterator.{YieldsList-from_slice}
+use Rattle.std.proofs.lemmas.Iterator.Search.{all_from_yields_List}
+use Rattle.host_records.proofs.BufferLaws.{all_still}
 use Rattle.host_records.proofs.buffer.kept.Goals as goal
-
-pub loop-i-init : goal.loop-i-init
-loop-i-init c =
-    (search rules, refl)
-
-pub returns-then-buffer-i : goal.returns-then-buffer-i
-returns-then-buffer-i c =
-    let l = c.loop-i in
-    let a = c.args in
-    still_other a.byte l.i a.buffer.now (search rules) (search rules) ∙ sym l.invariant.1
-
-pub loop-i-preserved : goal.loop-i-preserved
-loop-i-preserved c =
-    let l = c.loop-i in
-    let a = c.args in
-    (search rules, l.invariant.1 ∙ still_more a.byte l.i a.buffer.now (search rules) (search rules))
 
 pub returns : goal.returns
 returns c =
-    let l = c.loop-i in
-    let a = c.args in
-    still_none a.byte l.i a.buffer.now (search rules) ∙ sym l.invariant.1
+    let rest = drop c.args.n c.args.buffer.now in
+    let read = c.iter.ensures.rest ∙ take_all _ rest (omega (arith, length-drop c.args.n c.args.buffer.now)) in
+    all_from_yields_List (λ (b : ℕ). eqb b c.args.byte) _ _ _ c.all.ensures.ran (YieldsList-from_slice rest read) (λ x b q k. search (rules, tests)) ∙ all_still c.args.byte rest

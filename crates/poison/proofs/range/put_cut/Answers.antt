@@ -4,5 +4,5 @@ use Rattle.poison.proofs.range.put_cut.Goals as goal
 
 pub returns : goal.returns
 returns c =
-    let a = c.args in
-    cut_stored a.at a.from a.n a.start a.lines a.kind _ _ a.d.now _ c.higher-first.ensures c.least-end.ensures c.put_record.ensures
+    let e = c.args.e in
+    cut_stored c.args.at c.args.from c.args.n e.start e.lines e.kind _ _ c.args.d.now _ c.max-first.ensures c.min-end.ensures c.put_record.ensures

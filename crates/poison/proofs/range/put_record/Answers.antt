@@ -6,5 +6,7 @@ use Rattle.poison.proofs.range.put_record.Goals as goal
 
 pub returns : goal.returns
 returns c =
-    let a = c.args in
-    record_stored a.at a.start a.lines a.kind _ a.d.now _ _ _ (packed a.start a.kind (search rules) (search rules)) (search rules) c.put.ensures c.put-2.ensures c.put-3.ensures
+    let e = c.args.e in
+    let a = rw (c.from.ensures, c.from-2.ensures) at c.put.ensures in
+    let b = rw c.from-3.ensures at c.put-2.ensures in
+    record_stored c.args.at e.start e.lines e.kind _ c.args.d.now _ _ _ (packed e.start e.kind (search rules) (search rules)) (search rules) a b c.put-3.ensures

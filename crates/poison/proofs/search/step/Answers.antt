@@ -6,12 +6,12 @@ use Rattle.poison.proofs.search.step.Goals as goal
 
 pub overflow_mul-result : goal.overflow_mul-result
 overflow_mul-result c =
-    omega (arith, at_most c.args.base c.args.half c.args.start c.args.line (search rules) (search rules))
+    rw (c.from.ensures, c.from-2.ensures) (omega (arith, at_most c.args.base c.args.half c.args.start c.args.line (search rules) (search rules)))
 
 pub overflow_add-result : goal.overflow_add-result
 overflow_add-result c =
-    omega (arith, at_most c.args.base c.args.half c.args.start c.args.line (search rules) (search rules))
+    rw (c.from.ensures, c.from-2.ensures) (omega (arith, at_most c.args.base c.args.half c.args.start c.args.line (search rules) (search rules)))
 
 pub returns : goal.returns
 returns c =
-    stepped c.args.base c.args.half c.args.start c.args.line (search rules) (search rules)
+    rw (c.from.ensures, c.from-2.ensures) (stepped c.args.base c.args.half c.args.start c.args.line (search rules) (search rules))

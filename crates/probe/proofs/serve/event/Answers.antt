@@ -1,7 +1,10 @@
 -- `probe::serve::event` meets its contract. Assumes nothing.
-use Rattle.probe.proofs.CallLaws.{event_served}
+use Rattle.protocol.proofs.Laws.{puts_line_as}
+use Rattle.probe.specs.Calls.{serve_event}
 use Rattle.probe.proofs.serve.event.Goals as goal
 
 pub returns : goal.returns
+unfolding serve_event
 returns c =
-    event_served c.args.bytes.now c.call_event-answer.ensures c.bit-stored.ensures c.vector_number-vector.ensures c.put_numbers-end.ensures
+    let told = c.call_event-answer.ensures.done in
+    record { line = puts_line_as c.put_numbers-end.ensures (cc told.vector.number); next = told.next; valid = told.valid }

@@ -1,7 +1,10 @@
 -- `probe::serve::line` meets its contract. Assumes nothing.
-use Rattle.probe.proofs.CallLaws.{line_served}
+use mathlib.Core.Path.{refl}
+use Rattle.protocol.proofs.Laws.{puts_line_as}
+use Rattle.probe.specs.Calls.{serve_line}
 use Rattle.probe.proofs.serve.line.Goals as goal
 
 pub returns : goal.returns
+unfolding serve_line
 returns c =
-    line_served c.args.bytes.now c.args.device c.line-told.ensures c.status_number-number.ensures c.status_type-kind.ensures c.put_numbers-end.ensures c.requires.0
+    record { line = puts_line_as c.put_numbers-end.ensures (cc); next = refl; valid = c.requires.0 }

@@ -1,7 +1,10 @@
 -- `probe::serve::make` meets its contract. Assumes nothing.
-use Rattle.probe.proofs.CallLaws.{new_served}
+use Rattle.protocol.proofs.Laws.{puts_line_as}
+use Rattle.probe.specs.Calls.{serve_new}
 use Rattle.probe.proofs.serve.make.Goals as goal
 
 pub returns : goal.returns
+unfolding serve_new
 returns c =
-    new_served c.args.bytes.now c.make-made.ensures c.put_numbers-end.ensures
+    let made = c.make-made.ensures in
+    record { line = puts_line_as c.put_numbers-end.ensures (cc); next = made.next; valid = made.valid }

@@ -11,8 +11,16 @@ use Rattle.probe.specs.Relations.{kept_of}
 use Rattle.probe.proofs.serve.run.Given as goal
 
 abbrev pub invariant-loop-s : goal.invariant-loop-s
-invariant-loop-s l = (length l.input ≡ 65536) × (length l.out ≡ 65536) × (length l.reply ≡ 65536) × ValidDevice l.device × Fits l.s
-    × Steps probe (machine_of (kept_of l.initial.device l.initial.store l.initial.lent) l.initial.s l.initial.input l.initial.out) (machine_of (kept_of l.device l.store l.lent) l.s l.input l.out) × (length l.store ≡ 8192) × (l.lent ≤ 8192)
+invariant-loop-s l = record {
+  input : length l.input ≡ 65536;
+  out : length l.out ≡ 65536;
+  reply : length l.reply ≡ 65536;
+  store : length l.store ≡ 8192;
+  lent : l.lent ≤ 8192;
+  valid : ValidDevice l.device;
+  fits : Fits l.s;
+  steps : Steps probe (machine_of (kept_of l.initial.device l.initial.store l.initial.lent) l.initial.s l.initial.input l.initial.out) (machine_of (kept_of l.device l.store l.lent) l.s l.input l.out);
+}
 
 abbrev pub decreases-loop-s : goal.decreases-loop-s
 decreases-loop-s l = 9223372036854775808 - l.s.offset

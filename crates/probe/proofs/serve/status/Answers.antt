@@ -1,7 +1,10 @@
 -- `probe::serve::status` meets its contract. Assumes nothing.
-use Rattle.probe.proofs.CallLaws.{status_served}
+use mathlib.Core.Path.{refl}
+use Rattle.protocol.proofs.Laws.{puts_line_as}
+use Rattle.probe.specs.Calls.{serve_status}
 use Rattle.probe.proofs.serve.status.Goals as goal
 
 pub returns : goal.returns
+unfolding serve_status
 returns c =
-    status_served c.args.device c.event_status-told.ensures c.put_numbers-end.ensures c.requires.0
+    record { line = puts_line_as c.put_numbers-end.ensures (cc); next = refl; valid = c.requires.0 }

@@ -1,7 +1,10 @@
 -- `probe::serve::total` meets its contract. Assumes nothing.
-use Rattle.probe.proofs.CallLaws.{total_served}
+use mathlib.Core.Path.{refl}
+use Rattle.protocol.proofs.Laws.{puts_line_as}
+use Rattle.probe.specs.Calls.{serve_total}
 use Rattle.probe.proofs.serve.total.Goals as goal
 
 pub returns : goal.returns
+unfolding serve_total
 returns c =
-    total_served c.args.device c.damage_total-sum.ensures c.put_numbers-end.ensures c.requires.0
+    record { line = puts_line_as c.put_numbers-end.ensures (cc); next = refl; valid = c.requires.0 }

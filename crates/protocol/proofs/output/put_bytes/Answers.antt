@@ -1,35 +1,39 @@
--- `protocol::output::put_bytes` meets its contract. The invariant: the digits that are left, stored over what the buffer is now, give what all of them
--- stored over the buffer at the loop's start give. The measure is what is left of n. Assumes nothing.
+-- `protocol::output::put_bytes` meets its contract: a blank, then two digits after those put so far. Assumes nothing.
+use mathlib.Core.Path.{◌≡◌, sym, ap, ap₂, ◌∙◌}
+use mathlib.Core.List.{[], ◌∷◌, ◌++◌}
+use Prim.Native.Nat.{ℕ, ◌+◌, ◌<◌}
 use native.Mathlib.Omega.{arith}
-use borrow.Author.Rules.{rules}
-use lib.ListN.{length-set}
-use native.Mathlib.Nat.{add-zero, mul-zero, sub-zero}
-use Rattle.protocol.proofs.Printing.{hex_turn, puts_hex}
+use lib.ListN.{length, take, length-set, length-take}
+use lib.Seq.{take_all}
+use Rattle.protocol.specs.Text.{hex}
+use Rattle.protocol.proofs.Printing.{puts_nothing, puts_one, puts_two, puts_then, puts_as, hex_more, length_hex}
 use Rattle.protocol.proofs.output.put_bytes.Goals as goal
 
-pub loop-i-init : goal.loop-i-init
-loop-i-init c =
-    (search rules, search rules, simp (add-zero, mul-zero, sub-zero))
+pub loop-b-init : goal.loop-b-init
+unfolding hex
+loop-b-init c =
+    record { size = simp length-set; place = omega arith; puts = puts_nothing _ _ (simp length-set (omega arith)) }
 
-pub bounds-out-to : goal.bounds-out-to
-bounds-out-to c =
-    omega (arith, simp length-set at c.loop-i.invariant.1)
-
-pub bounds-out-to-in-loop-i : goal.bounds-out-to-in-loop-i
-bounds-out-to-in-loop-i c =
-    simp length-set (omega (arith, simp length-set at c.loop-i.invariant.1))
-
-pub loop-i-preserved : goal.loop-i-preserved
-loop-i-preserved c =
-    let a = c.args in
-    let again = hex_turn _ _ a.bytes.now a.at c.loop-i.i a.n _ _ (search rules) (search rules) c.digit.ensures c.digit-in-loop-i.ensures c.loop-i.invariant.2 in
-    (search rules, search rules, again)
-
-pub shape_of-out : goal.shape_of-out
-shape_of-out c =
-    simp length-set at c.loop-i.invariant.1
+pub loop-b-preserved : goal.loop-b-preserved
+loop-b-preserved c =
+    let l = c.loop-b in
+    let bytes = take c.args.n c.args.bytes.now in
+    let many : length bytes ≡ c.args.n = rw length-take (omega arith) in
+    let room : l.to + 1 < length l.out = omega (arith, c.requires.1) in
+    let high = c.digit.ensures in
+    let low = c.digit-in-loop-b.ensures in
+    record {
+      size = simp length-set (omega arith);
+      place = omega arith;
+      puts =
+          puts_as (puts_then l.invariant.puts (puts_two l.to _ _ l.out room) (simp length-set (omega arith)))
+          (ap₂ (λ (x y : ℕ). hex (take l.b-index bytes) ++ (x ∷ y ∷ [])) high low ∙ sym (hex_more bytes l.b-index (omega arith)));
+    }
 
 pub returns : goal.returns
 returns c =
-    let a = c.args in
-    puts_hex _ _ a.bytes.now a.at a.n c.loop-i.i (search rules) (search rules) (search rules) (search rules) c.loop-i.invariant.2
+    let l = c.loop-b in
+    let bytes = take c.args.n c.args.bytes.now in
+    let many : length bytes ≡ c.args.n = rw length-take (omega arith) in
+    let all : take l.b-index bytes ≡ bytes = take_all l.b-index bytes (omega arith) in
+    puts_then (puts_one c.args.at 32 c.args.out.now (omega arith)) (puts_as l.invariant.puts (ap hex all)) (omega (arith, length_hex bytes))

@@ -1,17 +1,19 @@
--- `protocol::output::put_number` meets its contract: the digits that `itoa` makes are the number's, and a 64-bit number has at most 20 of them.
--- Assumes nothing.
+-- `protocol::output::put_number` meets its contract: a blank, then the digits that `itoa` makes, which are the number's. Assumes nothing.
+use mathlib.Core.Path.{◌≡◌, sym, ap, ◌∙◌}
+use Prim.Native.Nat.{◌+◌, ◌-◌}
 use native.Mathlib.Omega.{arith}
 use borrow.Author.Rules.{rules}
-use Rattle.protocol.proofs.Printing.{decimal_printed, puts_number}
-use lib.ListN.{length, length-set}
-use mathlib.Core.Path.{sym, ap, ◌∙◌}
+use lib.ListN.{length}
+use Rattle.protocol.specs.Text.{decimal}
+use Rattle.protocol.proofs.Printing.{decimal_printed, puts_one, puts_copied, puts_then, length_column}
 use Rattle.protocol.proofs.output.put_number.Goals as goal
-
-pub copy-requires : goal.copy-requires
-copy-requires c =
-    simp length-set (omega (arith, ap length c.as_bytes-digits.ensures.value, c.format.ensures.fits))
 
 pub returns : goal.returns
 returns c =
-    let made = c.as_bytes-digits.ensures.value ∙ c.format.ensures.text ∙ sym (decimal_printed c.args.n (search rules)) in
-    puts_number _ _ _ _ _ c.requires made c.copy.ensures
+    let a = c.args in
+    let digits = c.as_bytes-digits.result.now in
+    let made : digits ≡ decimal a.n = c.as_bytes-digits.ensures.value ∙ c.format.ensures.text ∙ sym (decimal_printed a.n (search rules)) in
+    let long = ap length made in
+    let put =
+    puts_copied (a.at + 1) (a.at + 1 + length digits - (a.at + 1)) {m = a.at + 1 + length digits} (c.copy_from_slice.ensures.after ∙ made) (omega (arith, long)) (omega (arith, long)) in
+    puts_then (puts_one a.at 32 a.out.now (omega arith)) put (omega (arith, length_column a.n))

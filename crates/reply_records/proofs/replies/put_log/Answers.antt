@@ -4,7 +4,7 @@ use native.Mathlib.Omega.{arith}
 use borrow.Author.Rules.{rules}
 use lib.ListN.{length, take}
 use lib.Seq.{take_all}
-use Rattle.protocol.proofs.Laws.{length_hex}
+use Rattle.protocol.proofs.Laws.{puts_as, length_hex}
 use Rattle.reply_records.proofs.ReadLaws.{put_log}
 use Rattle.reply_records.proofs.replies.put_log.Goals as goal
 
@@ -26,4 +26,4 @@ put_number-requires c =
 pub returns : goal.returns
 returns c =
     let told = c.supported_log-told in
-    put_log c.args.records.now c.args.i c.put_bytes-to.ensures c.put_number.ensures told.ensures (search rules) c.requires
+    put_log c.args.records.now c.args.i c.put_bytes-to.ensures (puts_as c.put_number.ensures (cc)) told.ensures (search rules) c.requires

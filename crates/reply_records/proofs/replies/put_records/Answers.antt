@@ -1,4 +1,4 @@
--- `reply_records::replies::put_records` meets its contract. The invariant: the first i records are put. The measure is what is left of them. Assumes nothing.
+-- `reply_records::replies::put_records` meets its contract: the first i records are put. Assumes nothing.
 use mathlib.Core.Path.{◌≡◌, refl, ap, subst, ◌∙◌}
 use Prim.Native.Nat.{ℕ, ◌+◌, ◌*◌, ◌≤◌}
 use native.Mathlib.Nat.{mul-one, mul-add}
@@ -12,25 +12,24 @@ use Rattle.reply_records.proofs.replies.put_records.Goals as goal
 pub loop-i-init : goal.loop-i-init
 loop-i-init c =
     let a = c.args in
-    (search rules, refl, puts_as (puts_nothing _ _ (omega (arith, c.requires))) (each_none (record_columns a.kind a.records.now)), omega arith)
+    (refl, puts_as (puts_nothing _ _ (omega (arith, c.requires))) (each_none (record_columns a.kind a.records.now)), omega arith)
 
 pub put_record-to-requires : goal.put_record-to-requires
 put_record-to-requires c =
     let l = c.loop-i in
     let a = c.args in
-    omega (arith, l.invariant.1, l.invariant.3, room_step (record_room a.kind) l.i a.n c.loop-i-test.true, c.requires)
+    omega (arith, l.invariant.0, l.invariant.2, room_step (record_room a.kind) l.i a.n (search rules), c.requires)
 
 pub loop-i-preserved : goal.loop-i-preserved
 loop-i-preserved c =
     let l = c.loop-i in
     let a = c.args in
     let put = c.put_record-to in
-    let step = room_step (record_room a.kind) l.i a.n c.loop-i-test.true in
+    let step = room_step (record_room a.kind) l.i a.n (search rules) in
     let more : record_room a.kind * (l.i + 1) ≡ record_room a.kind * l.i + record_room a.kind = mul-add (record_room a.kind) l.i 1 ∙ ap (λ (k : ℕ). record_room a.kind * l.i + k) (mul-one (record_room a.kind)) in (
-      search rules,
-      omega (arith, put.auto, l.invariant.1),
-      puts_as (puts_then l.invariant.2 put.ensures.0 (omega (arith, put.ensures.0.end, put.ensures.1, l.invariant.3, step, c.requires))) (each_more (record_columns a.kind a.records.now) l.i),
-      omega (arith, put.ensures.1, l.invariant.3, more),
+      omega (arith, put.auto, l.invariant.0),
+      puts_as (puts_then l.invariant.1 put.ensures.0 (omega (arith, put.ensures.0.end, put.ensures.1, l.invariant.2, step, c.requires))) (each_more (record_columns a.kind a.records.now) l.i),
+      omega (arith, put.ensures.1, l.invariant.2, more),
     )
 
 pub returns : goal.returns
@@ -38,4 +37,4 @@ returns c =
     let l = c.loop-i in
     let a = c.args in
     let all : l.i ≡ a.n = omega arith in
-    (puts_as l.invariant.2 (ap (each_of (record_columns a.kind a.records.now)) all), subst (λ (k : ℕ). l.to ≤ a.at + record_room a.kind * k) all l.invariant.3)
+    (puts_as l.invariant.1 (ap (each_of (record_columns a.kind a.records.now)) all), subst (λ (k : ℕ). l.to ≤ a.at + record_room a.kind * k) all l.invariant.2)

@@ -1,16 +1,13 @@
--- `reply_records::rewrites::nothing` meets its contract: a refusal leaves the room, and what was read is written. Assumes nothing.
-use mathlib.Core.List.{[]}
+-- `reply_records::rewrites::nothing` meets its contract: a refusal leaves the room. Assumes nothing.
 use lib.ListN.{length}
 use Rattle.host_replies.specs.Replies.{read_nothing, write_bytes}
-use Rattle.reply_records.proofs.ReplyLaws.{again_refused, again_given}
+use mathlib.Core.Path.{refl}
+use mathlib.Core.List.{[]}
+use Rattle.host_replies.proofs.Laws.{passed_on}
+use Rattle.reply_records.proofs.ReplyLaws.{again_refused}
 use Rattle.reply_records.proofs.rewrites.nothing.Goals as goal
 
-pub returns-then-code-ne0 : goal.returns-then-code-ne0
-returns-then-code-ne0 c =
+pub returns-in_err-read_nothing : goal.returns-in_err-read_nothing
+returns-in_err-read_nothing c =
     let a = c.args in
-    again_refused (λ x. x) (λ _. write_bytes []) (read_nothing a.bytes.now) (length a.room.now) c.read_nothing-code.ensures c.if-code-ne0.true
-
-pub returns : goal.returns
-returns c =
-    let a = c.args in
-    again_given (λ x. x) (λ _. write_bytes []) (read_nothing a.bytes.now) (length a.room.now) c.read_nothing-code.ensures c.if-code-ne0.false c.write_nothing.ensures
+    again_refused (λ x. x) (λ _. write_bytes []) (read_nothing a.bytes.now) (length a.room.now) c.in_err-read_nothing.ensures refl (passed_on c.from_residual.ensures.1)

@@ -1,16 +1,13 @@
--- `reply_records::rewrites::timestamp` meets its contract: a refusal leaves the room, and what was read is written. Assumes nothing.
+-- `reply_records::rewrites::timestamp` meets its contract: a refusal leaves the room. Assumes nothing.
 use lib.ListN.{length}
 use Rattle.host_replies.specs.Replies.{read_timestamp}
 use Rattle.reply_records.specs.HostRewrites.{write_time}
-use Rattle.reply_records.proofs.ReplyLaws.{again_refused, again_given}
+use mathlib.Core.Path.{refl}
+use Rattle.host_replies.proofs.Laws.{passed_on}
+use Rattle.reply_records.proofs.ReplyLaws.{again_refused}
 use Rattle.reply_records.proofs.rewrites.timestamp.Goals as goal
 
-pub returns-then-code-ne0 : goal.returns-then-code-ne0
-returns-then-code-ne0 c =
+pub returns-in_err-time : goal.returns-in_err-time
+returns-in_err-time c =
     let a = c.args in
-    again_refused (λ x. x.code) write_time (read_timestamp a.bytes.now) (length a.room.now) c.read_timestamp-read.ensures c.if-code-ne0.true
-
-pub returns : goal.returns
-returns c =
-    let a = c.args in
-    again_given (λ x. x.code) write_time (read_timestamp a.bytes.now) (length a.room.now) c.read_timestamp-read.ensures c.if-code-ne0.false c.write_timestamp.ensures
+    again_refused (λ x. x.code) write_time (read_timestamp a.bytes.now) (length a.room.now) c.in_err-time.ensures refl (passed_on c.from_residual.ensures.1)

@@ -2,6 +2,8 @@
 use mathlib.Core.Path.{◌≡◌, refl, sym, ◌∙◌}
 use mathlib.Core.Bool.{false}
 use native.Mathlib.Omega.{arith}
+use borrow.Author.Rules.{rules}
+use Rattle.poison.proofs.Laws.{valid_shapes}
 use Rattle.mailbox.specs.State.{state_of, lines_of}
 use Rattle.list_commands.specs.PoisonCommands.{line_code}
 use Rattle.list_commands.proofs.Laws.{line_inside}
@@ -17,10 +19,10 @@ pub returns-then-code-ne-SUCCESS : goal.returns-then-code-ne-SUCCESS
 returns-then-code-ne-SUCCESS c =
     line_refused c.args.self _ _ c.check_address-code.ensures c.if-code-ne-SUCCESS.true
 
-pub returns-then-media : goal.returns-then-media
-returns-then-media c =
+pub returns-then-self : goal.returns-then-self
+returns-then-self c =
     let zero : line_code (lines_of (state_of c.args.self)) c.args.address ≡ 0 = sym c.check_address-code.ensures ∙ c.if-code-ne-SUCCESS.false in
-    line_disabled c.args.self _ zero c.if-media.true
+    line_disabled c.args.self _ zero c.if-self.true
 
 pub overflow_cast-address : goal.overflow_cast-address
 overflow_cast-address c =
@@ -31,10 +33,10 @@ overflow_cast-address c =
 
 pub test-answer-requires : goal.test-answer-requires
 test-answer-requires c =
-    let v = c.requires in device_any v.few_units refl v.poison
+    valid_shapes (device_any c.requires.few_units refl c.requires.poison)
 
 pub returns : goal.returns
 returns c =
     let zero : line_code (lines_of (state_of c.args.self)) c.args.address ≡ 0 = sym c.check_address-code.ensures ∙ c.if-code-ne-SUCCESS.false in
-    let on : c.args.self.media.disabled ≡ false = c.if-media.false in
-    line_tested c.args.self _ zero _ on c.test-answer.ensures c.status_of.ensures
+    let on : c.args.self.media.disabled ≡ false = c.if-self.false in
+    line_tested c.args.self _ zero _ on c.test-answer.ensures c.from.ensures

@@ -1,7 +1,5 @@
 -- `mailbox::device::Device::pool_command` meets its contract: the command over its parts. Assumes nothing.
 use native.Mathlib.Omega.{arith}
-use borrow.Author.Rules.{rules}
-use Rattle.poison.proofs.Laws.{Sized, valid_slots}
 use Rattle.mailbox.proofs.PoolAnswers.{pool_parts_answered}
 use Rattle.mailbox.proofs.device.Device.pool_command.Goals as goal
 
@@ -15,9 +13,7 @@ bounds-self-k c =
 
 pub pool_command_in-requires : goal.pool_command_in-requires
 pool_command_in-requires c =
-    let known = c.well_formed.0.1.1.1.1.1.1.1.0 in
-    let sized : Sized c.args.self.poison = search (rules, known) in
-    (c.requires.few_units, valid_slots c.args.self.poison sized c.requires.poison, c.requires.logs.each _ c.log_named-k.ensures.1)
+    (c.requires.few_units, c.requires.poison, c.requires.logs.each _ c.log_named-k.ensures.1)
 
 pub returns : goal.returns
 returns c =

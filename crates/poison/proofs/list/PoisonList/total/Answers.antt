@@ -2,11 +2,10 @@
 use mathlib.Core.Path.{◌∙◌}
 use borrow.Author.Rules.{rules}
 use Rattle.poison.proofs.Views.{Sized}
-use Rattle.poison.proofs.ListChanges.{total_is}
+use Rattle.poison.proofs.ListChanges.{sum_total}
 use Rattle.poison.proofs.list.PoisonList.total.Goals as goal
 
 pub returns : goal.returns
 returns c =
-    let l = c.args.self in
-    let sized : Sized l = search rules in
-    c.total_in.ensures ∙ total_is l sized
+    let sized : Sized c.args.self.now = search rules in
+    c.line_sum.ensures ∙ sum_total c.args.self.now sized

@@ -1,8 +1,0 @@
--- `protocol::stream::flush` is safe and ends. Assumes nothing.
-use native.Mathlib.Omega.{arith}
-use lib.ListN.{length-take}
-use Rattle.protocol.proofs.stream.flush.Goals as goal
-
-pub slice_bounds-write_all-end : goal.slice_bounds-write_all-end
-slice_bounds-write_all-end c =
-    simp length-take (omega arith)
