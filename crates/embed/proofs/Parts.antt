@@ -1,5 +1,5 @@
--- Of each function that is handed parts of a device: that the parts of a valid device meet what it requires (`_asks`), and that what it ensures of the parts is what the call through the
--- pointer ensures of the device (`_gives`). Assumes nothing.
+-- Of each function over parts of a device: that the parts of a valid device meet what it requires (`_asks`), and that what it ensures of the parts is what a call on the
+-- device ensures (`_gives`); the same of a command handed on by what its opcode sees, and of the end of a Sanitize log by log. Assumes nothing.
 use mathlib.Core.Path.{◌≡◌, refl, sym, ap, ap₂, subst, ◌∙◌}
 use mathlib.Core.Bool.{Bool, true, false}
 use mathlib.Core.List.{List, ◌∷◌, []}

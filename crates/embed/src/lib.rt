@@ -1,29 +1,25 @@
-// The device behind a pointer, for Rust to call, and for C through crate `embed_c`, which exports these functions under their names. A function here lends the parts of
-// the device that a call sees to the mailbox's function over those parts, which changes them where they lie (document 02, W-203). Event status hands on the device by value and make stores one: what the compiler
+// The device behind a pointer, for Rust to call, and for C through crate `embed_c`, which exports these functions under their names. A function here calls
+// the mailbox's, which changes the device where it lies (document 02, W-203), and answers in numbers. Event status hands on the device by value and make stores one: what the compiler
 // leaves of these copies is measured and not proved.
 // What a caller owes, and nothing here checks: the device was made by `kulduvost_make` and changed by these functions alone, nothing else uses it during a call, the lengths
 // that come with pointers are true, and no two of the areas handed over overlap.
 #![tactic(auto)]
 
-ghost use Rattle.std.specs.Prelude.{◌≡◌, true, false, ◌+◌, ◌≤◌, length};
-ghost use Rattle.labels.specs.Labels.{label_size};
+ghost use Rattle.std.specs.Prelude.{◌≡◌, ◌+◌, length};
 ghost use Rattle.mailbox.specs.State.{ValidDevice, state_of};
 ghost use Rattle.mailbox.specs.Mailbox.{outcome, area_after};
 ghost use Rattle.mailbox.specs.Pool.{pool_answer};
 ghost use Rattle.settings.specs.Relations.{Replied};
 ghost use Rattle.mailbox.specs.DeviceCalls.{make, event_report, media_report, line_test, event_status, damage_total};
 ghost use Rattle.mailbox.specs.Relations.{Answered, Makes, EventDone, MediaDone, StatusGiven};
-ghost use Rattle.mailbox.specs.Ending.{Ends, AfterEnding};
+ghost use Rattle.mailbox.specs.Ending.{AfterEnding};
 ghost use Rattle.mailbox.specs.declared.device.Device.{Device};
-ghost use Rattle.mailbox.specs.ByParts.{of_area, of_list, of_injection, of_log, log_at};
-ghost use Rattle.embed.specs.Left.{made, answered, pool_told, LogEmptied, WorkEnded, Commanded, WithoutArea, event_told, media_told, LineTold, device_size};
+ghost use Rattle.embed.specs.Left.{made, answered, pool_told, event_told, media_told, LineTold, device_size};
 
-use events::empty;
 use events::status::Status;
 use mailbox::device::Device;
 use mailbox::{by_parts, pool};
 use poison::line_test::LineTest;
-use settings::media::MediaState;
 use wire::returns;
 
 // The answer to a command: the return number, the number of the vector to raise (document 02, W-204; 0 for none) and the length of the reply.
@@ -87,192 +83,6 @@ pub fn kulduvost_make(device: &mut Device, volatile: u16, persistent: u16) -> u1
     a.code
 }
 
-// The three functions below end the work of a Sanitize that is due (document 02, W-207), before the call that comes at that time. Each log is emptied where it lies, one after the other.
-// One log, by its number.
-fn end_log(device: &mut Device, number: u8)
-    requires { ValidDevice device.old }
-    ensures { LogEmptied device.old (log_at number) device.new × ValidDevice device.new × (length device.old.logs ≡ 5) }
-{
-    let k = by_parts::log_at(number);
-    let a = empty::emptied(device.logs[k]);
-    device.logs[k] = a;
-}
-
-// All five, and media is enabled.
-fn end_work(device: &mut Device)
-    requires { ValidDevice device.old }
-    ensures { WorkEnded device.old device.new }
-{
-    end_log(device, 0);
-    end_log(device, 1);
-    end_log(device, 2);
-    end_log(device, 3);
-    end_log(device, 4);
-    let a = MediaState::enabled();
-    device.media = a;
-}
-
-// Where the work is due to end at the caller's time it is ended, else the device stays the very same.
-fn end_due(device: &mut Device, time: u64)
-    requires { ValidDevice device.old }
-    ensures { Ends device.old time device.new }
-{
-    if MediaState::due(device.media, time) {
-        return end_work(device);
-    } else {
-        return;
-    }
-}
-
-// The four functions below run a command on the part of the device that its opcode sees, a due Sanitize ended. They are not told of the label area: each requires a valid device and an opcode of that part, and
-// ensures the answer of the device as it is, whatever area of 4,096 bytes is lent (`WithoutArea`).
-// A command of the poison list alone: the list is lent where it lies.
-fn run_on_list(
-    device: &mut Device,
-    opcode: u16,
-    payload: &[u8],
-    time: u64,
-    reply: &mut [u8],
-) -> Done
-    requires { ValidDevice device.old × (of_list opcode ≡ true) }
-    ensures { WithoutArea device.old opcode payload.now time reply.old result device.new reply.new }
-{
-    let done = by_parts::list_command(
-        &mut device.poison,
-        device.clock,
-        device.volatile,
-        device.persistent,
-        device.media.disabled,
-        opcode,
-        payload,
-        time,
-        reply,
-    );
-    Done {
-        code: done.code,
-        vector: 0,
-        length: done.length,
-    }
-}
-
-// Inject Poison: the list and log 0 are lent where they lie.
-fn run_injection(
-    device: &mut Device,
-    opcode: u16,
-    payload: &[u8],
-    time: u64,
-    reply: &mut [u8],
-) -> Done
-    requires { ValidDevice device.old × (of_injection opcode ≡ true) }
-    ensures { WithoutArea device.old opcode payload.now time reply.old result device.new reply.new }
-{
-    let k = by_parts::log_at(0);
-    let told = by_parts::inject_command(
-        &mut device.poison,
-        &mut device.logs[k],
-        device.clock,
-        device.policy,
-        device.volatile,
-        device.persistent,
-        device.media.disabled,
-        payload,
-        time,
-        reply,
-    );
-    Done {
-        code: told.code,
-        vector: told.vector,
-        length: 0,
-    }
-}
-
-// A command of one event log: that log is lent where it lies.
-fn run_on_log(device: &mut Device, opcode: u16, payload: &[u8], time: u64, reply: &mut [u8]) -> Done
-    requires { ValidDevice device.old × (of_log opcode ≡ true) }
-    ensures { WithoutArea device.old opcode payload.now time reply.old result device.new reply.new }
-{
-    let k = by_parts::log_named(payload);
-    let done = by_parts::log_command(&mut device.logs[k], opcode, payload, reply);
-    Done {
-        code: done.code,
-        vector: 0,
-        length: done.length,
-    }
-}
-
-// Every other command: clock, policy and media are lent where they lie.
-fn run_on_settings(
-    device: &mut Device,
-    opcode: u16,
-    payload: &[u8],
-    time: u64,
-    reply: &mut [u8],
-) -> Done
-    requires { ValidDevice device.old × (of_area opcode label_size ≡ false) × (of_list opcode ≡ false) × (of_injection opcode ≡ false) × (of_log opcode ≡ false) }
-    ensures { WithoutArea device.old opcode payload.now time reply.old result device.new reply.new }
-{
-    let done = by_parts::settings_command(
-        device.volatile,
-        device.persistent,
-        &mut device.clock,
-        &mut device.policy,
-        &mut device.media,
-        opcode,
-        payload,
-        time,
-        reply,
-    );
-    Done {
-        code: done.code,
-        vector: 0,
-        length: done.length,
-    }
-}
-
-// The two functions below run a command with the label area at hand (document 02, W-206); each ensures the answer of the device as it is (`Commanded`).
-// What the area decides, it decides knowing of the device only whether media is disabled: Get LSA, Set LSA, and 0100h where it has not 4,096 bytes.
-fn run_on_area(
-    device: &mut Device,
-    opcode: u16,
-    payload: &[u8],
-    time: u64,
-    area: &mut [u8],
-    reply: &mut [u8],
-) -> Done
-    requires { ValidDevice device.old × (of_area opcode (length area.old) ≡ true) }
-    ensures { Commanded device.old opcode payload.now time area.old reply.old result device.new area.new reply.new }
-{
-    let done = by_parts::area_command(device.media.disabled, opcode, payload, area, reply);
-    Done {
-        code: done.code,
-        vector: 0,
-        length: done.length,
-    }
-}
-
-// Every other command leaves the area. An opcode sees the poison list, or the list and log 0, or one event log, or the settings: a function for each of these has the device handed on.
-fn run_on_device(
-    device: &mut Device,
-    opcode: u16,
-    payload: &[u8],
-    time: u64,
-    area: &mut [u8],
-    reply: &mut [u8],
-) -> Done
-    requires { ValidDevice device.old × (of_area opcode (length area.old) ≡ false) }
-    ensures { Commanded device.old opcode payload.now time area.old reply.old result device.new area.new reply.new }
-{
-    if by_parts::of_list(opcode) {
-        return run_on_list(device, opcode, payload, time, reply);
-    } else if by_parts::of_injection(opcode) {
-        return run_injection(device, opcode, payload, time, reply);
-    } else if by_parts::of_log(opcode) {
-        return run_on_log(device, opcode, payload, time, reply);
-    } else {
-        return run_on_settings(device, opcode, payload, time, reply);
-    }
-}
-
 // A command, with the caller's time. The reply is written to the lent buffer, the label area that is lent is written by Set LSA alone, and the device behind the pointer is the one that
 // follows.
 // Requires a valid device. Ensures that the number, the length, the vector, every byte of the buffer and the device left are those of `outcome`, that every byte of the area is that of
@@ -288,11 +98,11 @@ pub fn kulduvost_command(
     requires { ValidDevice device.old }
     ensures { AfterEnding device.old time (λ (e : Device). Answered (outcome (state_of device.old) opcode payload.now time area.old (length reply.old)) e (answered result device.new) reply.old reply.new) × (area.new ≡ area_after opcode payload.now result.code area.old) }
 {
-    end_due(device, time);
-    if by_parts::of_area(opcode, area.len()) {
-        return run_on_area(device, opcode, payload, time, area, reply);
-    } else {
-        return run_on_device(device, opcode, payload, time, area, reply);
+    let told = device.run(opcode, payload, time, area, reply);
+    Done {
+        code: told.code,
+        vector: told.vector,
+        length: told.length,
     }
 }
 
@@ -328,22 +138,13 @@ pub fn kulduvost_pool_command(
     }
 }
 
-// Event report of a record to a log, at the caller's time. That log is lent where it lies.
+// Event report of a record to a log, at the caller's time.
 // Requires a valid device. Ensures that the answer and the device left are those of `event_report`, that a refusal leaves the device that the end of a due Sanitize leaves, the very same where none is due, and that the device left is valid.
 pub fn kulduvost_event_report(device: &mut Device, time: u64, log: u8, event: &[u8]) -> Event
     requires { ValidDevice device.old }
     ensures { AfterEnding device.old time (λ (e : Device). EventDone (event_report (state_of device.old) time log event.now) e (event_told result device.new)) }
 {
-    end_due(device, time);
-    let k = by_parts::log_at(log);
-    let told = by_parts::event_report_in(
-        &mut device.logs[k],
-        device.clock,
-        device.policy,
-        time,
-        log,
-        event,
-    );
+    let told = device.take_event(time, log, event);
     Event {
         code: told.code,
         stored: told.stored,
@@ -351,7 +152,7 @@ pub fn kulduvost_event_report(device: &mut Device, time: u64, log: u8, event: &[
     }
 }
 
-// Media report of damage: so many lines from an address on, of a type, at the caller's time. The poison list is lent where it lies.
+// Media report of damage: so many lines from an address on, of a type, at the caller's time.
 // Requires a valid device. Ensures that the answer and the device left are those of `media_report`, that a refusal leaves the device that the end of a due Sanitize leaves, the very same where none is due, and that the device left is valid.
 pub fn kulduvost_media_report(
     device: &mut Device,
@@ -363,17 +164,7 @@ pub fn kulduvost_media_report(
     requires { ValidDevice device.old }
     ensures { AfterEnding device.old time (λ (e : Device). MediaDone (media_report (state_of device.old) time address lines kind) e (media_told result device.new)) }
 {
-    end_due(device, time);
-    let told = by_parts::media_report_in(
-        &mut device.poison,
-        device.clock,
-        device.volatile,
-        device.persistent,
-        time,
-        address,
-        lines,
-        kind,
-    );
+    let told = device.take_media(time, address, lines, kind);
     Media {
         code: told.code,
         stored: told.stored,

@@ -10,3 +10,4 @@ pub mod DeviceCalls
 pub mod Mailbox
 pub mod Relations
 pub mod ByParts
+pub mod InPlace

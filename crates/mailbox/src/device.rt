@@ -7,6 +7,7 @@ ghost use Rattle.mailbox.specs.Ending.{Ends, AfterEnding};
 ghost use Rattle.mailbox.specs.DeviceCalls.{make, new_device};
 ghost use Rattle.mailbox.specs.declared.device.Device.{Device};
 ghost use Rattle.mailbox.specs.Relations.{Answered, Makes};
+ghost use Rattle.mailbox.specs.InPlace.{answered};
 
 use crate::by_parts;
 use events::log::Log;
@@ -40,6 +41,14 @@ pub struct Answer {
     pub length: usize,
     pub device: Device,
     pub vector: Option<u8>,
+}
+
+// What a command answers beside the device, which is changed where it lies: the return number, the length of the reply, and the number of the vector to raise, 0 for none.
+#[derive(Clone, Copy, Debug, PartialEq, Eq)]
+pub struct CommandTold {
+    pub code: u16,
+    pub length: usize,
+    pub vector: u8,
 }
 
 // The answer of make.
@@ -112,17 +121,32 @@ impl Device {
         requires { ValidDevice self }
         ensures { AfterEnding self time (λ (e : Device). Answered (outcome (state_of self) opcode payload.now time area.old (length reply.old)) e result reply.old reply.new) × (area.new ≡ area_after opcode payload.now result.code area.old) }
     {
-        self.end_due(time);
-        let (done, vector) = self.answer(opcode, payload, time, area, reply);
+        let told = self.run(opcode, payload, time, area, reply);
         Answer {
-            code: done.code,
-            length: done.length,
+            code: told.code,
+            length: told.length,
             device: self,
-            vector,
+            vector: vector::numbered(told.vector),
         }
     }
 
-    // What is answered where no Sanitize is left to end, with the vector to raise. The part that the command sees is changed where it lies.
+    // The same for a device where it lies.
+    pub fn run(
+        &mut self,
+        opcode: u16,
+        payload: &[u8],
+        time: u64,
+        area: &mut [u8],
+        reply: &mut [u8],
+    ) -> CommandTold
+        requires { ValidDevice self.old }
+        ensures { AfterEnding self.old time (λ (e : Device). Answered (outcome (state_of self.old) opcode payload.now time area.old (length reply.old)) e (answered result self.new) reply.old reply.new) × (area.new ≡ area_after opcode payload.now result.code area.old) }
+    {
+        self.end_due(time);
+        self.answer(opcode, payload, time, area, reply)
+    }
+
+    // What is answered where no Sanitize is left to end. The part that the command sees is changed where it lies.
     fn answer(
         &mut self,
         opcode: u16,
@@ -130,12 +154,12 @@ impl Device {
         time: u64,
         area: &mut [u8],
         reply: &mut [u8],
-    ) -> (Done, Option<u8>)
+    ) -> CommandTold
         requires { ValidDevice self.old }
-        ensures { Answered (answer (state_of self.old) opcode payload.now time area.old (length reply.old)) self.old (record { code = result.0.code; length = result.0.length; device = self.new; vector = result.1 }) reply.old reply.new × (area.new ≡ area_after opcode payload.now result.0.code area.old) }
+        ensures { Answered (answer (state_of self.old) opcode payload.now time area.old (length reply.old)) self.old (answered result self.new) reply.old reply.new × (area.new ≡ area_after opcode payload.now result.code area.old) }
     {
         let disabled = self.media.disabled;
-        let mut vector = None;
+        let mut vector = 0;
         let done = if by_parts::of_area(opcode, area.len()) {
             by_parts::area_command(disabled, opcode, payload, area, reply)
         } else if by_parts::of_list(opcode) {
@@ -163,7 +187,7 @@ impl Device {
                 time,
                 reply,
             );
-            vector = vector::numbered(told.vector);
+            vector = told.vector;
             Done {
                 code: told.code,
                 length: 0,
@@ -184,6 +208,10 @@ impl Device {
                 reply,
             )
         };
-        (done, vector)
+        CommandTold {
+            code: done.code,
+            length: done.length,
+            vector,
+        }
     }
 }

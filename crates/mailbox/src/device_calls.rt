@@ -7,8 +7,10 @@ ghost use Rattle.mailbox.specs.DeviceCalls.{event_report, media_report, line_tes
 ghost use Rattle.mailbox.specs.Ending.{AfterEnding};
 ghost use Rattle.mailbox.specs.declared.device.Device.{Device};
 ghost use Rattle.mailbox.specs.Relations.{EventDone, MediaDone, LineDone, StatusGiven};
+ghost use Rattle.mailbox.specs.InPlace.{event_told, media_told};
 
 use crate::by_parts;
+use crate::by_parts::{EventTold, MediaTold};
 use crate::device::Device;
 use crate::line_status::LineStatus;
 use events::status;
@@ -44,12 +46,7 @@ impl Device {
         requires { ValidDevice self }
         ensures { AfterEnding self time (λ (e : Device). EventDone (event_report (state_of self) time log event.now) e result) }
     {
-        self.end_due(time);
-        let k = by_parts::log_at(log);
-        // Of a device by value a log is not lent: it is copied out and stored back.
-        let mut held = self.logs[k];
-        let told = by_parts::event_report_in(&mut held, self.clock, self.policy, time, log, event);
-        self.logs[k] = held;
+        let told = self.take_event(time, log, event);
         EventAnswer {
             code: told.code,
             stored: told.stored,
@@ -58,13 +55,37 @@ impl Device {
         }
     }
 
+    // The same for a device where it lies.
+    pub fn take_event(&mut self, time: u64, log: u8, event: &[u8]) -> EventTold
+        requires { ValidDevice self.old }
+        ensures { AfterEnding self.old time (λ (e : Device). EventDone (event_report (state_of self.old) time log event.now) e (event_told result self.new)) }
+    {
+        self.end_due(time);
+        let k = by_parts::log_at(log);
+        by_parts::event_report_in(&mut self.logs[k], self.clock, self.policy, time, log, event)
+    }
+
     // Media report of damage: so many lines from an address on, of a type, at the caller's time.
     pub fn media_report(mut self, time: u64, address: u64, lines: u32, kind: u8) -> MediaAnswer
         requires { ValidDevice self }
         ensures { AfterEnding self time (λ (e : Device). MediaDone (media_report (state_of self) time address lines kind) e result) }
     {
+        let told = self.take_media(time, address, lines, kind);
+        MediaAnswer {
+            code: told.code,
+            stored: told.stored,
+            dropped: told.dropped,
+            device: self,
+        }
+    }
+
+    // The same for a device where it lies.
+    pub fn take_media(&mut self, time: u64, address: u64, lines: u32, kind: u8) -> MediaTold
+        requires { ValidDevice self.old }
+        ensures { AfterEnding self.old time (λ (e : Device). MediaDone (media_report (state_of self.old) time address lines kind) e (media_told result self.new)) }
+    {
         self.end_due(time);
-        let told = by_parts::media_report_in(
+        by_parts::media_report_in(
             &mut self.poison,
             self.clock,
             self.volatile,
@@ -73,13 +94,7 @@ impl Device {
             address,
             lines,
             kind,
-        );
-        MediaAnswer {
-            code: told.code,
-            stored: told.stored,
-            dropped: told.dropped,
-            device: self,
-        }
+        )
     }
 
     // Line test: what the host is told of the line at an address.

@@ -2,7 +2,6 @@
 use mathlib.Core.Path.{◌≡◌, refl, sym, ◌∙◌}
 use mathlib.Core.Bool.{false}
 use native.Mathlib.Omega.{arith}
-use borrow.Author.Rules.{rules}
 use Rattle.poison.proofs.Laws.{valid_shapes}
 use Rattle.mailbox.specs.State.{state_of, lines_of}
 use Rattle.list_commands.specs.PoisonCommands.{line_code}
