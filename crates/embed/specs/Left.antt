@@ -3,7 +3,7 @@ use Rattle.std.specs.Prelude.{ℕ, ◌≡◌, Bool, List, [], length, get_or}
 use Rattle.labels.specs.Labels.{label_size}
 use Rattle.poison.specs.State.{PoisonState}
 use Rattle.events.specs.Log.{blank}
-use Rattle.events.specs.Emptied.{Empties, EmptiesAll}
+use Rattle.events.specs.Emptied.{Empties}
 use Rattle.events.specs.declared.log.Log.{Log}
 use Rattle.mailbox.specs.declared.device.Device.{Device}
 use Rattle.mailbox.specs.declared.device.Made.{Made}
@@ -14,8 +14,7 @@ use Rattle.mailbox.specs.State.{DeviceState, state_of}
 use Rattle.mailbox.specs.Mailbox.{answer, area_after}
 use Rattle.mailbox.specs.Relations.{Answered}
 use Rattle.settings.specs.Vector.{numbered}
-use Rattle.mailbox.specs.ByParts.{device_of, with_log}
-use Rattle.settings.specs.Media.{enabled}
+use Rattle.mailbox.specs.ByParts.{with_log}
 use Rattle.settings.specs.Clock.{unset}
 use Rattle.mailbox.specs.DeviceCalls.{LineOutcome}
 use Rattle.wire.specs.declared.done.Done as Wire
@@ -24,6 +23,7 @@ use Rattle.embed.specs.declared.PoolDone.{PoolDone}
 use Rattle.embed.specs.declared.Event.{Event}
 use Rattle.embed.specs.declared.Media.{Media}
 use Rattle.embed.specs.declared.Line.{Line}
+pub use Rattle.mailbox.specs.Ending.{WorkEnded}
 
 -- the bytes of a device; that its layout has so many is `device_size_is` of proofs/Header
 abbrev pub device_size : ℕ
@@ -40,17 +40,12 @@ answered r d = record { code = r.code; length = r.length; vector = numbered r.ve
 abbrev pub pool_told : PoolDone → Wire.Done
 pool_told r = record { code = r.code; length = r.length }
 
--- ---- the end of a Sanitize (document 02, W-207), log by log
+-- ---- the end of a Sanitize (document 02, W-207), log by log; `WorkEnded`: all five are emptied, media is enabled, and nothing else changes
 -- log k of the device d behind the pointer is emptied, and nothing else of it changes
 pub record LogEmptied (d : Device) (k : ℕ) (e : Device) : Type 0 where
   pub log : Log
   pub empties : Empties (get_or d.logs k blank) log
   pub left : e ≡ with_log d k log
-
--- all five are, media is enabled, and nothing else changes
-pub record WorkEnded (d e : Device) : Type 0 where
-  pub logs : EmptiesAll d.logs e.logs
-  pub left : e ≡ device_of d.volatile d.persistent d.clock d.policy e.logs d.poison enabled
 
 -- what a command on the device d behind the pointer leaves, where no Sanitize is left to end: the answer r, the device e, the label area `left` that was `area`, and the reply buffer `after` that was `before`
 abbrev pub Commanded : (d : Device) (opcode : ℕ) (payload : List ℕ) (time : ℕ) (area before : List ℕ) (r : Done) (e : Device) (left after : List ℕ) → Type 0

@@ -1,16 +1,17 @@
 -- The buffer that a call writes: filled before it, and what is still as it was after it; the column of its bytes, and how long its columns can be.
 -- Assumes nothing.
 use mathlib.Core.Path.{◌≡◌, refl, sym, ap, ap₂, ◌∙◌}
-use mathlib.Core.Bool.{Bool, true, ◌&&◌, cond}
+use mathlib.Core.Bool.{Bool, true, false, ◌&&◌, cond}
 use mathlib.Core.List.{List, [], ◌∷◌}
 use Prim.Native.Nat.{ℕ, zero, suc, ◌+◌, ◌-◌, ◌*◌, ◌≤◌, ◌<◌}
+use native.Mathlib.Numerals.{add-one}
 use native.Mathlib.Nat.{sub-zero, zero-add}
 use native.Mathlib.Omega.{arith}
 use lib.Dec.{eqb}
 use Rattle.std.specs.List.{list_all}
-use lib.ListN.{length, take, drop, replicate, set, length-append, length-take}
-use lib.Seq.{drop_at}
-use borrow.Author.Tests.{eq-eqb}
+use lib.ListN.{length, take, drop, get_or, replicate, set, drop_of_length-le, length-append, length-take}
+use lib.Seq.{drop-cons, drop_at}
+use borrow.Author.Tests.{eq-eqb, ne_eqb}
 use Rattle.wire.specs.Wire.{splice}
 use Rattle.protocol.specs.Text.{column, bytes_column, columns, line_end}
 use Rattle.protocol.specs.Relations.{Puts, PutsLine}
@@ -24,6 +25,21 @@ pub all_still : (fill : ℕ) (l : List ℕ) → list_all (λ b. eqb b fill) l �
 unfolding still
 all_still fill [] = refl
 all_still fill (b ∷ l) = ap (λ (t : Bool). eqb b fill && t) (all_still fill l)
+
+-- by the byte at a place: past the last one; one that is as it was filled; one that is not
+pub still_none : (fill i : ℕ) (l : List ℕ) → length l ≤ i → true ≡ still fill (drop i l)
+unfolding still
+still_none fill i l past = sym (ap (still fill) (drop_of_length-le l past))
+
+still_step : (fill i : ℕ) (l : List ℕ) → i < length l → still fill (drop i l) ≡ (eqb (get_or l i 0) fill && still fill (drop (i + 1) l))
+unfolding still
+still_step fill i l h = ap (still fill) (drop-cons l i 0 h ∙ ap (λ (k : ℕ). get_or l i 0 ∷ drop k l) (sym (add-one i)))
+
+pub still_more : (fill i : ℕ) (l : List ℕ) → i < length l → get_or l i 0 ≡ fill → still fill (drop i l) ≡ still fill (drop (i + 1) l)
+still_more fill i l h e = still_step fill i l h ∙ ap (λ (t : Bool). t && still fill (drop (i + 1) l)) (eq-eqb (get_or l i 0) fill e)
+
+pub still_other : (fill i : ℕ) (l : List ℕ) → i < length l → (get_or l i 0 ≡ fill → ⊥) → false ≡ still fill (drop i l)
+still_other fill i l h e = sym (still_step fill i l h ∙ ap (λ (t : Bool). t && still fill (drop (i + 1) l)) (ne_eqb (get_or l i 0) fill e))
 
 -- the bytes that a reply leaves of a filled buffer are still as they were
 still_filled : (fill n : ℕ) → still fill (replicate n fill) ≡ true

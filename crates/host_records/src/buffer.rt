@@ -23,7 +23,12 @@ fn kept(buffer: &[u8], n: usize, byte: u8) -> bool
     requires { n ≤ length buffer.now }
     ensures { result ≡ still byte (drop n buffer.now) }
 {
-    buffer[n..].iter().all(|&kept| kept == byte)
+    for &kept in &buffer[n..] {
+        if kept != byte {
+            return false;
+        }
+    }
+    true
 }
 
 // A column: a space and the first n bytes in hexadecimal, or a minus sign where there are none.

@@ -1,7 +1,7 @@
 -- The end of a Sanitize (document 02, W-207), which comes first in every command, event report and media report. Assumes nothing.
 use Rattle.std.specs.Prelude.{ℕ, ◌≡◌, Bool, true, false, List, map}
 use Rattle.events.specs.Log.{LogState}
-use Rattle.events.specs.Emptied.{emptied}
+use Rattle.events.specs.Emptied.{emptied, EmptiesAll}
 use Rattle.settings.specs.Media.{enabled, due}
 use Rattle.settings.specs.declared.media.MediaState.{MediaState}
 use Rattle.mailbox.specs.declared.device.Device.{Device}
@@ -29,6 +29,11 @@ pub record Ends (d : Device) (time : ℕ) (e : Device) : Type 0 where
   pub state : state_of e ≡ ended (state_of d) time
   pub same : due d.media time ≡ false → e ≡ d
   pub valid : ValidDevice e
+
+-- where the work is due to end: all five logs are emptied, media is enabled, and nothing else changes, bytes of the poison list past its entries included
+pub record WorkEnded (d e : Device) : Type 0 where
+  pub logs : EmptiesAll d.logs e.logs
+  pub left : e ≡ record { volatile = d.volatile; persistent = d.persistent; clock = d.clock; policy = d.policy; logs = e.logs; poison = d.poison; media = enabled }
 
 -- what a call that carries a time ensures: of the device that it finds, which is the one that a refusal leaves ("demand 1's \"device as it was\" is the device after it")
 pub record AfterEnding (d : Device) (time : ℕ) (Done : Device → Type 0) : Type 0 where

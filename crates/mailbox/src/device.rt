@@ -1,9 +1,10 @@
 // The device: what it holds, how it is made, and its mailbox.
-ghost use Rattle.std.specs.Prelude.{◌≡◌, ◌+◌, ◌≤◌, length};
+ghost use Rattle.std.specs.Prelude.{◌≡◌, true, ◌+◌, ◌≤◌, length};
 ghost use Rattle.commands.specs.Numbers.{most_units};
 ghost use Rattle.mailbox.specs.State.{ValidDevice, state_of};
 ghost use Rattle.mailbox.specs.Mailbox.{answer, outcome, area_after};
-ghost use Rattle.mailbox.specs.Ending.{Ends, AfterEnding};
+ghost use Rattle.settings.specs.Media.{due};
+ghost use Rattle.mailbox.specs.Ending.{Ends, WorkEnded, AfterEnding};
 ghost use Rattle.mailbox.specs.DeviceCalls.{make, new_device};
 ghost use Rattle.mailbox.specs.declared.device.Device.{Device};
 ghost use Rattle.mailbox.specs.Relations.{Answered, Makes};
@@ -96,14 +97,14 @@ impl Device {
         }
     }
 
-    // Makes it the device that a call at the caller's time finds: a due Sanitize is ended, so that the logs are empty and media is enabled (document 02, W-207).
+    // Makes it the device that a call at the caller's time finds: a due Sanitize is ended, so that the logs are empty, each emptied where it lies, and media is enabled (document 02, W-207).
     pub(crate) fn end_due(&mut self, time: u64)
         requires { ValidDevice self.old }
-        ensures { Ends self.old time self.new }
+        ensures found { Ends self.old time self.new }
+        ensures ended { due self.old.media time ≡ true → WorkEnded self.old self.new }
     {
         if self.media.due(time) {
-            let emptied = empty::emptied_logs(self.logs);
-            self.logs = emptied;
+            empty::empty_logs(&mut self.logs);
             self.media = MediaState::enabled();
         }
     }

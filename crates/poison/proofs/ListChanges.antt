@@ -105,6 +105,18 @@ insert_is e (x ∷ xs) = go (ltb e.start x.start) (insert_is e xs)
 pub state_path : {es fs : List Entry} {o p : Bool} {s t : ℕ} → es ≡ fs → o ≡ p → s ≡ t → ◌≡◌ {A = PoisonState} (record { entries = es; overflow = o; overflow_time = s }) (record { entries = fs; overflow = p; overflow_time = t })
 state_path a b c = λ i. record { entries = a i; overflow = b i; overflow_time = c i }
 
+-- ---- a list in memory whose count is another
+abbrev pub recount : PoisonList → ℕ → PoisonList
+recount l m = list_of l.starts l.lengths l.kinds m l.overflow l.overflow_time
+
+same_list : {l r : PoisonList} → recount r l.count ≡ l → r.count ≡ l.count → r ≡ l
+same_list {l} {r} e n = ap (recount r) n ∙ e
+
+-- an insertion by what stands in memory before it and after it: of lists with the same arrays, flag and time, the counts are equal, however the code comes by them
+pub added_by : {l l' r r' : PoisonList} {at start lines kind : ℕ} → EntryAdded l' at start lines kind r' → l'.count ≡ l.count → r.count ≡ r'.count → recount l' l.count ≡ l → recount r r'.count ≡ r' → EntryAdded l at start lines kind r
+added_by {l} {l'} {r} {r'} added n m e f =
+    rw (← same_list e n, same_list f m) added
+
 -- ---- lists in memory
 module _ (l : PoisonList) (sized : Sized l) where
   pub inserted_at : {r : PoisonList} {at start lines kind : ℕ} → at ≤ l.count → l.count < 256 → EntryAdded l at start lines kind r → InsertedAt l at start lines kind r

@@ -9,20 +9,20 @@ use lib.ListN.{length, take, drop, get_or, set, length-append, length-take, leng
 use lib.Seq.{take_at, take-take, take-nil, take-suc, set_at, length-take-le}
 use Rattle.std.specs.List.{copy_within}
 use Rattle.poison.specs.State.{Entry}
-use Rattle.poison.specs.Shift.{put_at, pullAt, first_at}
+use Rattle.poison.specs.Shift.{put_at, pullAt, first_at, EntryPut}
 
 -- what is read past the end of a list of entries
 abbrev pub nought : Entry
 nought = record { start = 0; lines = 0; kind = 0 }
 
--- what moves the elements from a place on up by one slot, and stores one there, puts that one in at the place
-pub put_moved : {A : Type 0} (l : List A) (at n : ℕ) (v : A) → at ≤ n → n < length l → set (copy_within l at n (at + 1)) at v ≡ put_at at n v l
+-- what moves the elements from a place on up by one slot, and stores one there, puts that one in at the place: where they are taken from, how many, where they come to and where that ends
+-- are equal to the right numbers, however the code spells them
+pub put_moved : {A : Type 0} (l : List A) (at n : ℕ) (v : A) {r : List A} {from many to past : ℕ} → r ≡ (take to l ++ take many (drop from l)) ++ drop past l → at ≤ n → n < length l → from ≡ at → many ≡ n - at → to ≡ at + 1 → past ≡ n + 1 → set r at v ≡ put_at at n v l
 unfolding put_at
-put_moved l at n v h k =
+put_moved l at n v m h k f c t p =
     let b : at < length l = omega arith in
-    let z : at + 1 + (n - at) ≡ n + 1 = omega arith in
-    let t : take (at + 1) l ≡ take at l ++ (get_or l at v ∷ []) = rw (add-one at) (take-suc l at v b) in
-    rw (z, t) (simp append_assoc (set_at (take at l) (get_or l at v) _ v at (length-take-le at l (omega arith))))
+    let o : take (at + 1) l ≡ take at l ++ (get_or l at v ∷ []) = rw (add-one at) (take-suc l at v b) in
+    rw (m, f, c, t, p, o) (simp append_assoc (set_at (take at l) (get_or l at v) _ v at (length-take-le at l (omega arith))))
 
 -- what moves the elements past a place down by one slot takes the one at the place away
 pub pull_moved : {A : Type 0} (l : List A) (at last : ℕ) → at ≤ last → copy_within l (at + 1) (last + 1) at ≡ pullAt at last l
@@ -81,6 +81,21 @@ past_any (x ∷ l) (suc at) (suc n) e h = let z : suc n - suc at ≡ n - at = om
 pub past_kept : {A : Type 0} (l : List A) (at n : ℕ) (e : A) → at ≤ n → drop (n + 1) (put_at at n e l) ≡ drop (n + 1) l
 unfolding put_at
 past_kept l at n e h = rw (add-one n) (past_any l at n e h)
+
+-- an entry's parts put in at one place, each among as many as are held
+pub entry_put : {at a b d n start lines kind : ℕ} {s l k s' l' k' : List ℕ} → at ≤ n → s' ≡ put_at at a start s → a ≡ n → l' ≡ put_at at b lines l → b ≡ n → k' ≡ put_at at d kind k → d ≡ n → EntryPut at n start lines kind s l k s' l' k'
+entry_put {at} {a} {b} {d} {n} {start} {lines} {kind} {s} {l} {k} {s'} {l'} {k'} h p e q f r g =
+    let starts : s' ≡ put_at at n start s = rw (← e) p in
+    let lengths : l' ≡ put_at at n lines l = rw (← f) q in
+    let kinds : k' ≡ put_at at n kind k = rw (← g) r in
+    record {
+      starts = starts;
+      lengths = lengths;
+      kinds = kinds;
+      past_starts = rw starts (past_kept s at n start h);
+      past_lengths = rw lengths (past_kept l at n lines h);
+      past_kinds = rw kinds (past_kept k at n kind h);
+    }
 
 -- ---- a search from the front, among the first n
 module _ {A : Type 0} (p : A → Bool) (d : A) where

@@ -8,13 +8,15 @@ use native.Mathlib.Numerals.{add-one}
 use native.Mathlib.Omega.{arith}
 use native.Mathlib.Decide.{ℕ_discrete}
 use lib.ListN.{length, take, drop, get_or, set, length-take, length-drop}
-use lib.Seq.{sets, sets-eq, length-sets, drop-cons, drop-drop, take_all}
+use lib.Seq.{sets, sets-eq, length-sets, drop-cons, drop-drop, take_all, take-suc}
+use Rattle.std.proofs.lemmas.List.{get_or-drop}
 use borrow.Rule.Slice.PartMut.{put_mid}
 use lib.Pow.{pow-add}
 use Rattle.wire.specs.Returns.{need}
 use Rattle.wire.specs.Wire.{le, number, part, field, splice, same}
 use mathlib.Core.Bool.{Bool, true, false, ◌&&◌, cond, false≢true}
 use Rattle.std.specs.Cmp.Lexicographic.{pointwise}
+use Rattle.std.specs.List.{list_all, zip}
 use Rattle.std.proofs.lemmas.Grind.{take-set_at}
 use lib.Dec.{eqb}
 use lib.ListN.{length-append, drop_of_length-le}
@@ -127,6 +129,16 @@ pub part_none : (at k : ℕ) (xs : List ℕ) → k ≡ 0 → part at k xs ≡ []
 unfolding part
 part_none at k xs e = ap (λ (x : ℕ). take x (drop at xs)) e
 
+-- a turn of the loop that copies the n elements of s from index from over those of xs: i of them are copied
+pub copied_turn : (xs s : List ℕ) (from i n : ℕ) → i < n → length xs ≡ n → from + n ≤ length s → take i xs ≡ part from i s
+    → take (i + 1) (set xs i (get_or s (from + i) 0)) ≡ part from (i + 1) s
+unfolding part
+copied_turn xs s from i n less long fits h =
+    take-set_at xs i (i + 1) (get_or s (from + i) 0) refl (omega arith)
+    ∙ ap₂ (λ (l : List ℕ) (b : ℕ). l ++ (b ∷ [])) h (sym (get_or-drop from s i 0))
+    ∙ sym (take-suc (drop from s) i 0 (omega (arith, length-drop from s)))
+    ∙ ap (λ (k : ℕ). take k (drop from s)) (sym (add-one i))
+
 sets_append : (a b xs : List ℕ) (at j : ℕ) → j ≡ at + length a → sets (sets xs at a) j b ≡ sets xs at (a ++ b)
 sets_append [] b xs at j e = ap (λ (x : ℕ). sets xs x b) (e ∙ add-zero at)
 sets_append (x ∷ a) b xs at j e = sets_append a b (set xs at x) (suc at) j (e ∙ add-suc at (length a) ∙ sym (suc-add at (length a)))
@@ -151,6 +163,14 @@ same_pointwise [] [] = refl
 same_pointwise [] (y ∷ ys) = refl
 same_pointwise (x ∷ xs) [] = refl
 same_pointwise (x ∷ xs) (y ∷ ys) = ap (λ (b : Bool). eqb x y && b) (same_pointwise xs ys)
+
+-- and so as a test of each pair
+pub same_pairs : (xs ys : List ℕ) → length xs ≡ length ys → list_all (λ (p : ℕ × ℕ). eqb p.0 p.1) (zip xs ys) ≡ same xs ys
+unfolding same
+same_pairs [] [] e = refl
+same_pairs [] (y ∷ ys) e = absurd (omega arith)
+same_pairs (x ∷ xs) [] e = absurd (omega arith)
+same_pairs (x ∷ xs) (y ∷ ys) e = ap (λ (b : Bool). eqb x y && b) (same_pairs xs ys (omega arith))
 
 -- a check that fails gives its number, one that holds gives the rest
 pub need_fails : {t : Bool} (n m : ℕ) → t ≡ false → n ≡ need t n m

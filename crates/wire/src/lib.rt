@@ -33,20 +33,22 @@ pub fn get(s: &[u8], at: usize, n: usize) -> u64
     u64::from_le_bytes(bytes)
 }
 
-// Copies the n bytes of s from index from into d from index at.
-#[tactic(auto, using(crate::proofs::Laws::part_lent, crate::proofs::Laws::part_stored, crate::proofs::Laws::length_part))]
+// Copies the n bytes of s from index from into d from index at. Not by the library's `copy_from_slice`: at a length that is not
+// known it is compiled to a call of `memmove`, and the library for C wants `memcpy` and `memset` alone.
+#[tactic(auto, using(crate::proofs::Laws::part_lent, crate::proofs::Laws::part_stored, crate::proofs::Laws::length_part, std::proofs::lemmas::Grind::common_steps))]
 pub fn copy(s: &[u8], from: usize, n: usize, d: &mut [u8], at: usize)
     requires { (from + n ≤ length s.now) × (at + n ≤ length d.old) }
     ensures { d.new ≡ splice at (part from n s.now) d.old }
 {
-    d[at..at + n].copy_from_slice(&s[from..from + n]);
+    for (i, byte) in d[at..at + n].iter_mut().enumerate() {
+        *byte = s[from + i];
+    }
 }
 
-// Whether the bytes of s from index at on, as many as t has, are those of t.
-#[tactic(auto, using(crate::proofs::Laws::part_lent, crate::proofs::Laws::same_pointwise))]
+// Whether the bytes of s from index at on, as many as t has, are those of t. Pair by pair, so that a must-fail edit can turn the test of a pair alone.
 pub fn matches(s: &[u8], at: usize, t: &[u8]) -> bool
     requires { at + length t.now ≤ length s.now }
     ensures { result ≡ same (part at (length t.now) s.now) t.now }
 {
-    &s[at..at + t.len()] == t
+    s[at..at + t.len()].iter().zip(t).all(|(a, b)| *a == *b)
 }

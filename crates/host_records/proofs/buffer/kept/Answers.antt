@@ -1,13 +1,34 @@
--- `host_records::buffer::kept` meets its contract: what `all` answers is `still`. Assumes nothing.
-use Rattle.std.proofs.Common.{ℕ, drop, eqb, ◌∙◌, length-drop, arith, rules, tests}
+-- `host_records::buffer::kept` meets its contract: a byte that is not as it was filled decides, and one that is leaves it to the others. Assumes nothing.
+use mathlib.Core.Path.{◌≡◌, sym, ap, ◌∙◌}
+use mathlib.Core.List.{List}
+use Prim.Native.Nat.{ℕ, ◌-◌}
+use native.Mathlib.Omega.{arith}
+use lib.ListN.{length, take, drop, get_or, length-drop}
 use lib.Seq.{take_all}
-use Rattle.std.proofs.lemmas.Iterator.{YieldsList-from_slice}
-use Rattle.std.proofs.lemmas.Iterator.Search.{all_from_yields_List}
-use Rattle.host_records.proofs.BufferLaws.{all_still}
+use Rattle.host_records.proofs.BufferLaws.{still_none, still_more, still_other}
 use Rattle.host_records.proofs.buffer.kept.Goals as goal
+
+-- the bytes that the loop goes over
+others : (n : ℕ) (l : List ℕ) → take (length l - n) (drop n l) ≡ drop n l
+others n l = take_all (length l - n) (drop n l) (omega (arith, length-drop n l))
+
+pub returns-then-kept-byte : goal.returns-then-kept-byte
+returns-then-kept-byte c =
+    let a = c.args in
+    let i = c.loop-kept.kept-index in
+    let all = others a.n a.buffer.now in
+    still_other a.byte i (drop a.n a.buffer.now) (omega (arith, c.loop-kept-test.true, ap length all)) (λ e. c.if-kept-byte.true (ap (λ (l : List ℕ). get_or l i 0) all ∙ e))
+    ∙ sym c.loop-kept.invariant
+
+pub loop-kept-preserved : goal.loop-kept-preserved
+loop-kept-preserved c =
+    let a = c.args in
+    let i = c.loop-kept.kept-index in
+    let all = others a.n a.buffer.now in
+    c.loop-kept.invariant
+    ∙ still_more a.byte i (drop a.n a.buffer.now) (omega (arith, c.loop-kept-test.true, ap length all)) (sym (ap (λ (l : List ℕ). get_or l i 0) all) ∙ c.if-kept-byte.false)
 
 pub returns : goal.returns
 returns c =
-    let rest = drop c.args.n c.args.buffer.now in
-    let read = c.iter.ensures.rest ∙ take_all _ rest (omega (arith, length-drop c.args.n c.args.buffer.now)) in
-    all_from_yields_List (λ (b : ℕ). eqb b c.args.byte) _ _ _ c.all.ensures.ran (YieldsList-from_slice rest read) (λ x b q k. search (rules, tests)) ∙ all_still c.args.byte rest
+    let a = c.args in
+    still_none a.byte c.loop-kept.kept-index (drop a.n a.buffer.now) (omega (arith, c.loop-kept-test.false, ap length (others a.n a.buffer.now))) ∙ sym c.loop-kept.invariant

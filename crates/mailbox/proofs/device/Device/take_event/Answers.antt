@@ -9,5 +9,5 @@ use Rattle.mailbox.proofs.device.Device.take_event.Goals as goal
 pub returns : goal.returns
 returns c =
     let five : length c.args.self.now.logs ≡ 5 = search rules in
-    after_event c.end_due.ensures _ _
-    (event_parts_done _ c.end_due.ensures.valid (found_logs c.end_due.ensures ∙ five) _ c.log_at-k.ensures.0 c.event_report_in.ensures)
+    after_event c.end_due.ensures.found _ _
+    (event_parts_done _ c.end_due.ensures.found.valid (found_logs c.end_due.ensures.found ∙ five) _ c.log_at-k.ensures.0 c.event_report_in.ensures)

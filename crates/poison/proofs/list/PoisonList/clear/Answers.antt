@@ -1,8 +1,10 @@
 -- `PoisonList::clear` meets its contract: each return is one case of what is left of the entry over the line (Cutting). Assumes nothing.
+use mathlib.Core.Path.{refl}
 use native.Mathlib.Omega.{arith}
 use borrow.Author.Rules.{rules}
 use Rattle.poison.proofs.Views.{valid_runs}
 use Rattle.poison.proofs.Covering.{searched}
+use Rattle.poison.proofs.ListChanges.{added_by}
 use Rattle.poison.proofs.Cutting.{Over, stays, found_bounds, removes, keeps_after, keeps_before, drops_after, keeps_both}
 use Rattle.poison.proofs.list.PoisonList.clear.Goals.{After-entry_at-over}
 use Rattle.poison.proofs.list.PoisonList.clear.Goals as goal
@@ -59,4 +61,4 @@ returns-then-self-eq256 c =
 
 pub returns-else-self-eq256 : goal.returns-else-self-eq256
 returns-else-self-eq256 c =
-    keeps_both (over (goal.at.returns-else-self-eq256 c).After-entry_at-over) c.in_default-2.is-0.1 c.in_default-2.is-1.1 (omega (arith, c.requires.0.few, c.if-self-eq256.false)) c.put_entry.ensures
+    keeps_both (over (goal.at.returns-else-self-eq256 c).After-entry_at-over) c.in_default-2.is-0.1 c.in_default-2.is-1.1 (omega (arith, c.requires.0.few, c.if-self-eq256.false)) (added_by c.put_entry.ensures (omega arith) (omega (arith, c.put_entry.ensures.count)) refl refl)

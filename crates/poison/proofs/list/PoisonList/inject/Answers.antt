@@ -1,11 +1,12 @@
 -- `PoisonList::inject` meets its contract: the line is covered, or 256 are held, or an entry of one line is put in at its place (Injecting,
 -- ListChanges). Assumes nothing.
 use Prim.Native.Nat.{◌<◌}
+use mathlib.Core.Path.{refl}
 use native.Mathlib.Omega.{arith}
 use borrow.Author.Rules.{rules}
 use Rattle.poison.proofs.Views.{valid_runs}
 use Rattle.poison.proofs.Covering.{searched}
-use Rattle.poison.proofs.ListChanges.{place_within, inserted_there}
+use Rattle.poison.proofs.ListChanges.{place_within, inserted_there, added_by}
 use Rattle.poison.proofs.Injecting.{covered_already, no_room, put_in}
 use Rattle.poison.proofs.list.PoisonList.inject.Goals as goal
 
@@ -36,5 +37,6 @@ pub returns-in-None-2 : goal.returns-in-None-2
 returns-in-None-2 c =
     let l = c.args.self.now in
     let less : c.args.self.now.count < 256 = omega (arith, c.requires.0.few, c.if-self-eq256.false) in
+    let within = place_within l (search rules) _ _ c.requires.0.few c.place-place.ensures in
     put_in (searched l c.args.line l.count (search rules) c.requires.0.few c.in-None.ensures) (omega arith) less
-    (inserted_there l (search rules) c.place-place.ensures less c.put_entry.ensures)
+    (inserted_there l (search rules) c.place-place.ensures less (added_by c.put_entry.ensures (omega (arith, within)) (omega (arith, c.put_entry.ensures.count)) refl refl))

@@ -1,10 +1,11 @@
 -- `PoisonList::report` meets its contract. The loop's invariant: what is left to do from `at` on, done to the list as it is, gives what the
 -- whole report gives (Reporting, Progress). The measure is what is left of the extent. Assumes nothing.
+use mathlib.Core.Path.{refl}
 use Prim.Native.Nat.{◌<◌}
 use native.Mathlib.Omega.{arith}
 use borrow.Author.Rules.{rules}
 use Rattle.poison.proofs.Views.{valid_runs}
-use Rattle.poison.proofs.ListChanges.{place_within}
+use Rattle.poison.proofs.ListChanges.{place_within, added_by}
 use Rattle.poison.proofs.Reporting.{bounded, passes, drops, stores, answers_flagged, answers_quiet}
 use Rattle.poison.proofs.list.PoisonList.report.Goals as goal
 
@@ -43,13 +44,18 @@ pub loop-at-preserved : goal.loop-at-preserved
 loop-at-preserved c =
     let u = c.loop-at.invariant in
     let fewer : c.loop-at.self.count < 256 = omega (arith, u.valid.few, c.if-self-eq256.false) in
-    stores u c.in-Uncovered.ensures fewer c.requires.1 c.requires.2 c.place-place.ensures c.put_entry.ensures
+    let within = place_within c.loop-at.self u.sized _ _ u.valid.few c.place-place.ensures in
+    stores u c.in-Uncovered.ensures fewer c.requires.1 c.requires.2 c.place-place.ensures
+    (added_by c.put_entry.ensures (omega (arith, within)) (omega (arith, c.put_entry.ensures.count)) refl refl)
 
 pub overflow_add-stored : goal.overflow_add-stored
 overflow_add-stored c =
     let u = c.loop-at.invariant in
     let fewer : c.loop-at.self.count < 256 = omega (arith, u.valid.few, c.if-self-eq256.false) in
-    let again = stores u c.in-Uncovered.ensures fewer c.requires.1 c.requires.2 c.place-place.ensures c.put_entry.ensures in
+    let within = place_within c.loop-at.self u.sized _ _ u.valid.few c.place-place.ensures in
+    let again =
+    stores u c.in-Uncovered.ensures fewer c.requires.1 c.requires.2 c.place-place.ensures
+    (added_by {r = c.put_entry.new.self} c.put_entry.ensures (omega (arith, within)) refl refl refl) in
     omega (arith, bounded again, c.requires.1)
 
 pub returns-then-dropped-gt0 : goal.returns-then-dropped-gt0
